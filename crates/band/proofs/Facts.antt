@@ -1,0 +1,51 @@
+-- What document 01 leans on beside the band, at the end of every list of calls: read off what each call keeps.
+use Prim.Native.Nat.{ℕ, _*_, _<_}
+use mathlib.Core.Path.{_≡_, sym, ap, _∙_}
+use mathlib.Core.Bool.{true}
+use mathlib.Core.List.{List}
+use lib.ListN.{length}
+use Rattle.refusal.specs.declared.Verdict.the-variants.{Accepted}
+use Rattle.refusal.specs.Refusals.{isAccepted}
+use Rattle.refusal.proofs.VerdictLaws.{accepted-is}
+use Rattle.cell.specs.Cell.{soundOf}
+use Rattle.microscope.specs.Sketch.{gridBytes, cellOf}
+use Rattle.band.specs.Calls.{Call, Settings}
+use Rattle.band.specs.Tally.{accepts, tally}
+use Rattle.band.specs.Band.{AcceptedSettings, after}
+use Rattle.band.proofs.Runs.{verdictOf}
+use Rattle.band.proofs.RefusalLaws.{argumentsVerdict, verdict-is, verdict-accepts}
+use Rattle.band.proofs.Steps.{reached}
+
+module _ (S : Settings) (ok : AcceptedSettings S) (seed : ℕ) (calls : List Call) where
+  -- the sketch's clock is the tally's
+  pub clock-as-tallied : after S seed calls .sketch .clock ≡ tally S calls .clock
+  clock-as-tallied = ap (λ w. w .sketch .clock) (reached S ok seed calls .is)
+
+  -- no state is 0: 5 never arises
+  pub state-nonzero : after S seed calls .sketch .rounding .state ≡ 0 → ⊥
+  state-nonzero = rw (reached S ok seed calls .is) (reached S ok seed calls .known .good .alive)
+
+  -- the grid's length is right: 6 never arises
+  pub grid-whole : length (after S seed calls .grid) ≡ gridBytes (after S seed calls .sketch)
+  grid-whole = rw (reached S ok seed calls .is) (reached S ok seed calls .known .good .whole)
+
+  -- every cell is sound: 14 never arises
+  pub cells-sound : (j : ℕ) → j < S .rows * S .cols → soundOf (S .params .t) (S .params .c) (cellOf (after S seed calls .sketch) (after S seed calls .grid) j) ≡ true
+  cells-sound = rw (reached S ok seed calls .is) (reached S ok seed calls .known .good .sound)
+
+  -- A CALL is refused exactly when the tally's own test says so, and with the lower of 7 and 8 that applies
+  pub verdict-as-tallied : (call : Call) → verdictOf (after S seed calls) call ≡ argumentsVerdict S call
+  verdict-as-tallied call =
+      let b = reached S ok seed calls in
+      rw (b .is) (verdict-is S ok (tally S calls) (b .state) (b .grid) (b .known) call)
+
+  pub accepted-as-tallied : (call : Call) → isAccepted (verdictOf (after S seed calls) call) ≡ accepts S call
+  accepted-as-tallied call =
+      let b = reached S ok seed calls in
+      rw (b .is) (verdict-accepts S ok (tally S calls) (b .state) (b .grid) (b .known) call)
+
+  pub accepted-exactly : (call : Call) → (verdictOf (after S seed calls) call ≡ Accepted → accepts S call ≡ true) × (accepts S call ≡ true → verdictOf (after S seed calls) call ≡ Accepted)
+  accepted-exactly call = (
+    λ e. sym (accepted-as-tallied call) ∙ ap isAccepted e,
+    λ e. accepted-is (verdictOf (after S seed calls) call) (accepted-as-tallied call ∙ e),
+  )

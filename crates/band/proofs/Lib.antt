@@ -1,0 +1,16 @@
+pub mod SubWindow
+pub mod History
+pub mod RoundedLaws
+pub mod CellHistory
+pub mod PixelLaws
+pub mod CrossingHistory
+pub mod TallyLaws
+pub mod CallHistory
+pub mod Runs
+pub mod Reached
+pub mod RefusalLaws
+pub mod Steps
+pub mod CellKept
+pub mod Facts
+pub mod Band
+pub mod Examples

@@ -1,0 +1,28 @@
+-- The tally counts one more where the key has the column, and is left as it was where not.
+use Prim.Native.Nat.{ℕ, zero, suc, _<_}
+use mathlib.Core.Path.{_≡_, refl, _∙_, fun-ext}
+use mathlib.Core.Bool.{true}
+use mathlib.Core.List.{List, [], _∷_}
+use lib.Dec.{eqb}
+use lib.ListN.{length, getD}
+use native.Mathlib.Omega.{arith}
+use borrow.Author.Tests.{eq-eqb, ne-eqb}
+use Rattle.band.specs.Tally.{hits, counted}
+use Rattle.band.proofs.History.{OneMore}
+
+hits-is : (key : List ℕ) (row col : ℕ) → row < length key → hits key row col ≡ eqb (getD key row 0) col
+unfolding hits
+hits-is [] row col h = absurd (omega arith)
+hits-is (x ∷ key) zero col h = refl
+hits-is (x ∷ key) (suc row) col h = hits-is key row col (omega arith)
+
+module _ (n : ℕ) (key : List ℕ) (items : ℕ → ℕ → ℕ → ℕ) (row : ℕ) (inside : row < length key) where
+  pub counted-hit : OneMore n (items row (getD key row 0)) (counted n key items row (getD key row 0))
+  unfolding counted
+  counted-hit =
+      let e : hits key row (getD key row 0) ≡ true = hits-is key row (getD key row 0) inside ∙ eq-eqb (getD key row 0) (getD key row 0) refl in
+      record { here = rw (e, eq-eqb n n refl) refl; elsewhere = λ j ne. rw (e, ne-eqb j n ne) refl }
+
+  pub counted-miss : (col : ℕ) → (getD key row 0 ≡ col → ⊥) → counted n key items row col ≡ items row col
+  unfolding counted
+  counted-miss col ne = fun-ext (λ j. rw (hits-is key row col inside, ne-eqb (getD key row 0) col ne) refl)

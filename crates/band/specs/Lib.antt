@@ -1,0 +1,4 @@
+pub mod Calls
+pub mod Tally
+pub mod Peak
+pub mod Band

@@ -1,0 +1,1 @@
+// No functions: document 01, "Band". Definitions in specs/, the theorem in proofs/Band.antt.

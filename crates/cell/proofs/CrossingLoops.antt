@@ -1,0 +1,119 @@
+-- The loops of a crossing: each says that the definition of all at entry is that of the rest from here, so that a turn
+-- is one clause of it. Assumes nothing.
+use Prim.Native.Nat.{ℕ, suc, _+_, _-_, _*_, _^_, _≤_, _<_}
+use mathlib.Core.Path.{_≡_, refl, sym, _∙_}
+use mathlib.Core.Bool.{true, false, _&&_, and-eq-true-iff}
+use mathlib.Core.List.{List, _∷_, _++_, append-assoc, append-nil}
+use lib.Dec.{leb}
+use lib.ListN.{length, take, drop, getD, set, replicate, length-set, drop-of-length-le}
+use lib.Seq.{drop-length, drop-cons, take-suc-set, drop-set-lt, take-all}
+use native.Mathlib.Nat.{mod-lt, div-mul-le-self, mul-le-mul-right}
+use native.Mathlib.Numerals.{add-one}
+use native.Mathlib.Omega.{arith}
+use borrow.Author.Fill.{fill-more}
+use borrow.Author.Tests.{le-leb, lt-leb, leb-true}
+use Rattle.cell.specs.Cell.{pixelsOf, slotOf}
+use Rattle.cell.specs.Crossing.{clearOf, ceilingOf, allAtMost, timesEach}
+
+-- ALL AT MOST m
+pub most-cons : (m x : ℕ) (xs : List ℕ) → allAtMost m (x ∷ xs) ≡ true → (x ≤ m) × (allAtMost m xs ≡ true)
+unfolding allAtMost
+most-cons m x xs e =
+    let q = and-eq-true-iff (leb x m) (allAtMost m xs) .0 e in
+    (leb-true x m (q .0), q .1)
+
+-- up to here they are
+module _ (m i x : ℕ) (l : List ℕ) (h : i < length l) (e : x ≡ getD l i 0) (inv : allAtMost m l ≡ allAtMost m (drop i l)) where
+  most-here : allAtMost m l ≡ (leb x m && allAtMost m (drop (suc i) l))
+  unfolding allAtMost
+  most-here = inv ∙ rw (drop-cons l i 0 h, e) refl
+
+  pub most-on : x ≤ m → allAtMost m l ≡ allAtMost m (drop (i + 1) l)
+  most-on s = most-here ∙ simp (le-leb _ _ s, add-one)
+
+  pub most-stop : m < x → false ≡ allAtMost m l
+  most-stop s = sym (most-here ∙ simp (lt-leb _ _ s))
+
+pub most-end : (m i : ℕ) (l : List ℕ) → length l ≤ i → allAtMost m l ≡ allAtMost m (drop i l) → true ≡ allAtMost m l
+unfolding allAtMost
+most-end m i l h inv = sym (inv ∙ rw (drop-of-length-le l h) refl)
+
+-- TIMES c, each
+pub record Timing (c : ℕ) (l₀ l : List ℕ) (i : ℕ) : Type 0 where
+  pub done : timesEach c l₀ ≡ take i l ++ timesEach c (drop i l)
+  pub low : allAtMost (ceilingOf c) (drop i l) ≡ true
+  pub same : length l ≡ length l₀
+
+-- no pixel up to the ceiling outgrows its byte
+pub ceiling-fits : (c x : ℕ) → x ≤ ceilingOf c → x * c ≤ 255
+unfolding ceilingOf
+ceiling-fits c x h = omega (arith, mul-le-mul-right c h, div-mul-le-self 255 c)
+
+module _ (c : ℕ) (l₀ : List ℕ) where
+  pub timing-begin : allAtMost (ceilingOf c) l₀ ≡ true → Timing c l₀ l₀ 0
+  timing-begin s = record { done = refl; low = s; same = refl }
+
+  pub timing-end : (l : List ℕ) (i : ℕ) → length l ≤ i → Timing c l₀ l i → l ≡ timesEach c l₀
+  unfolding timesEach
+  timing-end l i h w = sym (w .done ∙ rw (drop-of-length-le l h, take-all i l h) (append-nil l))
+
+  module _ (l : List ℕ) (i x : ℕ) (h : i < length l) (e : x ≡ getD l i 0) (w : Timing c l₀ l i) where
+    low-here : (x ≤ ceilingOf c) × (allAtMost (ceilingOf c) (drop (suc i) l) ≡ true)
+    low-here = most-cons (ceilingOf c) x (drop (suc i) l) (rw e (rw (drop-cons l i 0 h) at (w .low)))
+
+    timing-fits : x * c ≤ 255
+    timing-fits = ceiling-fits c x (low-here .0)
+
+    pub timing-32 : x * c < 2 ^ 32
+    timing-32 = omega (arith, timing-fits)
+
+    pub timing-8 : x * c < 2 ^ 8
+    timing-8 = omega (arith, timing-fits)
+
+    pub timing-on : Timing c l₀ (set l i (x * c)) (i + 1)
+    unfolding timesEach
+    timing-on =
+        let s : i < suc i = omega arith in
+        record {
+          done = w .done ∙ rw (drop-cons l i 0 h, e) (simp (add-one, take-suc-set, drop-set-lt, append-assoc));
+          low = simp (add-one, drop-set-lt) (low-here .1);
+          same = length-set l i (x * c) ∙ w .same;
+        }
+
+-- CLEAR: `left` sub-windows after `window` are to be cleared yet
+pub record Clearing (t : ℕ) (b₀ : List ℕ) (ended count : ℕ) (b : List ℕ) (window left : ℕ) : Type 0 where
+  pub done : clearOf t count (ended + 1) b₀ ≡ clearOf t left (window + 1) b
+  pub same : length b ≡ length b₀
+  pub passed : window + left ≡ ended + count
+
+module _ (t : ℕ) (b₀ : List ℕ) (ended count : ℕ) where
+  pub clearing-begin : Clearing t b₀ ended count b₀ ended count
+  clearing-begin = record { done = refl; same = refl; passed = refl }
+
+  module _ (b : List ℕ) (window left : ℕ) (w : Clearing t b₀ ended count b window left) where
+    pub clearing-end : left ≤ 0 → b ≡ clearOf t count (ended + 1) b₀
+    unfolding clearOf
+    clearing-end h =
+        let e : left ≡ 0 = omega arith in
+        sym (w .done ∙ rw e refl)
+
+    module _ (slot : ℕ) (e : slot ≡ slotOf t (window + 1)) where
+      pub clearing-in : pixelsOf t ≤ length b₀ → slot < length b
+      clearing-in room =
+          let positive : 0 < pixelsOf t = omega arith in
+          rw e (omega (arith, mod-lt (window + 1) positive, w .same))
+
+      pub clearing-on : 0 < left → Clearing t b₀ ended count (set b slot 0) (window + 1) (left - 1)
+      unfolding clearOf
+      clearing-on h =
+          let s : left ≡ suc (left - 1) = omega arith in
+          record { done = (rw s at (w .done)) ∙ rw e refl; same = length-set b slot 0 ∙ w .same; passed = omega (arith, w .passed) }
+
+-- ZERO ALL: a fill
+pub zeros-on : (l₀ l : List ℕ) (i : ℕ) → l ≡ replicate i 0 ++ drop i l₀ → length l ≡ length l₀ → i < length l → set l i 0 ≡ replicate (i + 1) 0 ++ drop (i + 1) l₀
+zeros-on l₀ l i e same h = rw e (fill-more i 0 l₀ (omega arith))
+
+pub zeros-end : (l₀ l : List ℕ) (i : ℕ) → l ≡ replicate i 0 ++ drop i l₀ → length l ≡ length l₀ → i ≤ length l → length l ≤ i → l ≡ replicate (length l₀) 0
+zeros-end l₀ l i e same a b =
+    let q : i ≡ length l₀ = omega arith in
+    e ∙ rw (q, drop-length) (append-nil _)

@@ -1,0 +1,55 @@
+-- The ways out of a credit and of an insertion, in the form in which the code comes to them: each is a case of its definition. Assumes nothing.
+use Prim.Native.Nat.{ℕ, _+_, _^_, _≤_, _<_}
+use mathlib.Core.Path.{_≡_, refl, ap, _∙_}
+use mathlib.Core.List.{List, _++_}
+use lib.ListN.{take, drop, set}
+use lib.Seq.{take-set-le}
+use native.Mathlib.Omega.{arith}
+use borrow.Author.Tests.{lt-ltb, le-ltb}
+use Rattle.laws.specs.Steps.{still}
+use Rattle.cell.specs.declared.Drawn.{Drawn}
+use Rattle.cell.specs.Cell.{pixelsOf, slotOf, pixelOf, zoomOf, shutterOf, unitOf, withPixel, withZoom, withShutter, maxZoom}
+use Rattle.cell.specs.Insertion.{divideEach, pixelStep, zoomOutOf, creditOf, insertOf}
+use Rattle.cell.specs.Workers.{Judged, stepOf}
+use Rattle.cell.proofs.CellLaws.{slot-inside}
+use Rattle.cell.proofs.SoundLaws.{sound-unit}
+
+module _ (t c slot : ℕ) (b : List ℕ) (σ : ℕ) where
+  pub credit-gained : pixelOf b slot < 255 → still (withPixel slot (pixelOf b slot + 1) b) σ ≡ creditOf t c slot b σ
+  unfolding creditOf
+  credit-gained h = simp (lt-ltb _ _ h)
+
+  module _ (z top : ℕ) (full : 255 ≤ pixelOf b slot) (zoom : z ≡ zoomOf t b) (limit : top ≡ maxZoom c) where
+    pub credit-zoomed : (raised px : List ℕ) (r : Drawn) (p : ℕ) → z < top → raised ≡ withZoom t (z + 1) b → p ≡ pixelsOf t
+        → stepOf px r ≡ divideEach c (set (take p raised) slot 256) σ → stepOf (px ++ drop p raised) r ≡ creditOf t c slot b σ
+    unfolding creditOf zoomOutOf
+    credit-zoomed raised px r p h er ep e =
+        let h' : zoomOf t b < maxZoom c = rw (← zoom, ← limit) h in
+        let q : take (t + 2) (set b (t + 2) (zoomOf t b + 1)) ≡ take (t + 2) b = take-set-le (t + 2) b (t + 2) (zoomOf t b + 1) (omega arith) in
+        let er' : raised ≡ withZoom t (zoomOf t b + 1) b = er ∙ rw zoom refl in
+        simp (le-ltb _ _ full, lt-ltb _ _ h') (rw (ep, er') (ap (pixelStep t (withZoom t (zoomOf t b + 1) b)) (rw (ep, er', q) at e)))
+
+    pub credit-dropped : top ≤ z → still b σ ≡ creditOf t c slot b σ
+    unfolding creditOf
+    credit-dropped h =
+        let h' : maxZoom c ≤ zoomOf t b = rw (← zoom, ← limit) h in
+        simp (le-ltb _ _ full, le-ltb _ _ h')
+
+module _ (t c n : ℕ) (b : List ℕ) (σ s unit : ℕ) (shutter : s ≡ shutterOf t b) (worth : unit ≡ unitOf t c b) where
+  pub insert-below : (l : List ℕ) → s + 1 < unit → l ≡ withShutter t (s + 1) b → still l σ ≡ insertOf t c n b σ
+  unfolding insertOf
+  insert-below l h e =
+      let h' : shutterOf t b + 1 < unitOf t c b = rw (← shutter, ← worth) h in
+      rw (e, shutter) (simp (lt-ltb _ _ h'))
+
+  pub insert-credits : (l l' : List ℕ) (slot : ℕ) (r : Drawn) → unit ≤ s + 1 → l ≡ withShutter t 0 b → slot ≡ slotOf t n → stepOf l' r ≡ creditOf t c slot l σ → stepOf l' r ≡ insertOf t c n b σ
+  unfolding insertOf
+  insert-credits l l' slot r h el es e =
+      let h' : unitOf t c b ≤ shutterOf t b + 1 = rw (← shutter, ← worth) h in
+      e ∙ rw (el, es) (simp (le-ltb _ _ h'))
+
+pub next-shutter-fits : (t c : ℕ) (b : List ℕ) (s unit : ℕ) → Judged t c b s unit → s + 1 < unit → s + 1 < 2 ^ 32
+next-shutter-fits t c b s unit j h = omega (arith, j .unit-is, sound-unit t c b (j .sound) (j .fit .c-low))
+
+pub slot-read : (t n slot : ℕ) → slot ≡ slotOf t n → slot < pixelsOf t
+slot-read t n slot e = rw e (slot-inside t n)

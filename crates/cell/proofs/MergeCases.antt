@@ -1,0 +1,134 @@
+-- The stages of a merge in the form in which the code comes to them: the raises, the sums with the carry, the storing.
+-- Assumes nothing.
+use Prim.Native.Nat.{ℕ, suc, _+_, _-_, _*_, _/_, _%_, _^_, _≤_, _<_, max}
+use mathlib.Core.Path.{_≡_, refl, sym, ap, _∙_}
+use mathlib.Core.Bool.{Bool, true, false, not}
+use mathlib.Core.List.{List, _++_}
+use lib.ListN.{length, take, drop, getD, length-take}
+use native.Mathlib.Nat.{add-assoc, zero-add, add-zero, mod-lt, pow-le-pow-right, one-le-pow, div-lt-iff-lt-mul}
+use native.Mathlib.Omega.{arith}
+use borrow.Author.Tests.{not-true, not-false}
+use Rattle.cell.specs.declared.Drawn.{Drawn}
+use Rattle.cell.specs.declared.sums.Summed.{Summed}
+use Rattle.cell.specs.Cell.{pixelsOf, depthOf, slotOf, pixelsIn, zoomOf, shutterOf, withPixels, withZoom, withShutter, maxZoom, soundOf}
+use Rattle.cell.specs.Insertion.{divideEach}
+use Rattle.cell.specs.Crossing.{allAtMost}
+use Rattle.cell.specs.Merge.{addEach, cutEach, Settled, settledLater, settleFrom, settleOf, withCarry, mergedWith, mergeOf}
+use Rattle.cell.specs.Workers.{stepOf}
+use Rattle.cell.specs.MergeWorkers.{settledOf, sumsOf}
+use Rattle.cell.proofs.PowerLaws.{max-zoom-limit, zoom-fits}
+use Rattle.cell.proofs.SoundLaws.{sound-zoom, sound-shutter}
+use Rattle.cell.proofs.SumsLaws.{most-at, cut-low, settle-fit, settle-raise, settle-few}
+
+-- SETTLE: the zoom is z by now, and the sums are l
+pub record Settling (c z₀ : ℕ) (l₀ : List ℕ) (σ : ℕ) (l : List ℕ) (s n z : ℕ) : Type 0 where
+  pub done : settleOf c z₀ l₀ σ ≡ settledLater n (settleFrom c (maxZoom c - z) z l s)
+  pub same : length l ≡ length l₀
+  pub most : z ≤ maxZoom c
+
+module _ (c z₀ : ℕ) (l₀ : List ℕ) (σ : ℕ) where
+  pub settling-begin : z₀ ≤ maxZoom c → Settling c z₀ l₀ σ l₀ σ 0 z₀
+  settling-begin h = record { done = simp zero-add; same = refl; most = h }
+
+  pub settling-few : (l : List ℕ) (s n z : ℕ) → Settling c z₀ l₀ σ l s n z → length l₀ ≤ 4098 → n ≤ 31 * 4098
+  settling-few l s n z w few =
+      omega (arith, ap (λ (r : Settled). r .sums .draws) (w .done), settle-few c (maxZoom c - z₀) z₀ l₀ σ (omega (arith, max-zoom-limit c)) few)
+
+  module _ (l : List ℕ) (s n z : ℕ) (w : Settling c z₀ l₀ σ l s n z) (fit : Bool) (ef : fit ≡ allAtMost 255 l) where
+    pub settling-fit : not fit ≡ false → record { zoom = z; sums = record { bytes = l; state = s; draws = n } } ≡ settleOf c z₀ l₀ σ
+    settling-fit g = sym (w .done ∙ rw (settle-fit c (maxZoom c - z) z l s (sym ef ∙ not-false fit g)) (simp add-zero))
+
+    module _ (top : ℕ) (et : top ≡ maxZoom c) where
+      pub settling-cut : top ≤ z → (l' : List ℕ) → l' ≡ cutEach l → record { zoom = z; sums = record { bytes = l'; state = s; draws = n } } ≡ settleOf c z₀ l₀ σ
+      unfolding settleFrom
+      settling-cut h l' e =
+          let q : maxZoom c - z ≡ 0 = omega arith in
+          sym (w .done ∙ rw (q, ← e) (simp add-zero))
+
+      module _ (low : z < top) where
+        pub settling-raise : z + 1 < 2 ^ 8
+        settling-raise = omega (arith, max-zoom-limit c)
+
+        pub settling-less : maxZoom c - (z + 1) < maxZoom c - z
+        settling-less = omega arith
+
+        module _ (g : not fit ≡ true) (l' : List ℕ) (d : Drawn) (e : stepOf l' d ≡ divideEach c l s) where
+          settling-turn : settleOf c z₀ l₀ σ ≡ settledLater n (settledLater (d .draws) (settleFrom c (maxZoom c - (z + 1)) (z + 1) l' (d .state)))
+          settling-turn =
+              let q : maxZoom c - z ≡ suc (maxZoom c - (z + 1)) = omega arith in
+              (rw q at (w .done)) ∙ rw (settle-raise c (maxZoom c - (z + 1)) z l s (sym ef ∙ not-true fit g), ← e) refl
+
+          pub settling-on : length l' ≡ length l → Settling c z₀ l₀ σ l' (d .state) (n + d .draws) (z + 1)
+          settling-on same = record { done = settling-turn ∙ simp add-assoc; same = same ∙ w .same; most = omega arith }
+
+          pub settling-fits : length l' ≡ length l → length l₀ ≤ 4098 → n + d .draws < 2 ^ 32
+          settling-fits same few = omega (arith, settling-few l' (d .state) (n + d .draws) (z + 1) (settling-on same) few)
+
+pub cut-known : (l l' : List ℕ) → l' ≡ cutEach l → allAtMost 255 l' ≡ true
+cut-known l l' e = rw e (cut-low l)
+
+-- ADD THE PIXELS
+module _ (t c target p z z' : ℕ) (b src : List ℕ) (σ : ℕ) (ez : z ≡ zoomOf t b) (ez' : z' ≡ zoomOf t src) (ep : p ≡ pixelsOf t) where
+  pub added-is : (l : List ℕ) (r : Drawn) → stepOf l r ≡ addEach c (target - z) (target - z') (take p b) (take p src) σ
+      → stepOf l r ≡ addEach c (target - zoomOf t b) (target - zoomOf t src) (pixelsIn t b) (pixelsIn t src) σ
+  added-is l r e = rw (ez, ez', ep) at e
+
+-- THE SUMS: what the pixels gave, the carry, and what settled
+pub carry-fits : (l : List ℕ) (slot carry : ℕ) → allAtMost 510 l ≡ true → carry ≤ 1 → getD l slot 0 + carry < 2 ^ 32
+carry-fits l slot carry low h = omega (arith, most-at 510 l slot low)
+
+pub carry-in : (t n slot : ℕ) (l₀ l : List ℕ) → slot ≡ slotOf t n → length l ≡ length l₀ → length l₀ ≡ pixelsOf t → slot < length l
+carry-in t n slot l₀ l e same many =
+    let positive : 0 < pixelsOf t = omega arith in
+    rw e (omega (arith, mod-lt n positive))
+
+module _ (t c target slot carry : ℕ) (b src : List ℕ) (σ : ℕ) (l l' l'' : List ℕ) (r : Drawn) (r' : Summed)
+    (ea : stepOf l r ≡ addEach c (target - zoomOf t b) (target - zoomOf t src) (pixelsIn t b) (pixelsIn t src) σ)
+    (ec : l' ≡ withCarry slot carry l) (es : settledOf l'' r' ≡ settleOf c target l' (r .state)) where
+  pub sums-are : (n : ℕ) → slot ≡ slotOf t n → record { zoom = r' .zoom; sums = record { bytes = l''; state = r' .state; draws = r .draws + r' .draws } } ≡ sumsOf t c target (slotOf t n) carry b src σ
+  unfolding sumsOf
+  sums-are n e = rw (← ea, ← e, ← ec) (ap (settledLater (r .draws)) es)
+
+-- STORE
+pub store-paired : (t p : ℕ) (b sums : List ℕ) → p ≡ pixelsOf t → length b ≡ depthOf t → length sums ≡ pixelsOf t → length sums ≡ length (take p b)
+store-paired t p b sums e d many = simp length-take (omega arith)
+
+pub stored-is : (t p z s : ℕ) (b sums l l' l'' : List ℕ) → p ≡ pixelsOf t → l ≡ sums → l' ≡ withZoom t z (l ++ drop p b) → l'' ≡ withShutter t s l'
+    → l'' ≡ withShutter t s (withZoom t z (withPixels t sums b))
+stored-is t p z s b sums l l' l'' e el el' el'' = rw (el'', el', el, e) refl
+
+-- THE MERGE
+module _ (t c : ℕ) (b src : List ℕ) (sound : soundOf t c b ≡ true) (sound' : soundOf t c src ≡ true) (base : 2 ≤ c)
+    (target : ℕ) (et : target ≡ max (zoomOf t b) (zoomOf t src)) where
+  pub target-high : zoomOf t b ≤ target
+  target-high = omega arith
+
+  pub target-high' : zoomOf t src ≤ target
+  target-high' = omega arith
+
+  pub target-low : target ≤ maxZoom c
+  target-low = omega (arith, sound-zoom t c b sound, sound-zoom t c src sound')
+
+  pub target-fits : c ^ target ≤ 2 ^ 32 - 1
+  target-fits = zoom-fits c base target target-low
+
+  module _ (unit shutters : ℕ) (eu : unit ≡ c ^ target) (es : shutters ≡ shutterOf t b + shutterOf t src) where
+    pub target-positive : 0 < unit
+    target-positive = rw eu (one-le-pow target c (omega arith))
+
+    pub remainder-fits : shutters % unit < 2 ^ 32
+    remainder-fits = omega (arith, mod-lt shutters target-positive, target-fits)
+
+    -- two shutters, each below a unit
+    pub carry-le : shutters / unit ≤ 1
+    carry-le =
+        let positive : 0 < c = omega arith in
+        let p : c ^ zoomOf t b ≤ c ^ target = pow-le-pow-right positive target-high in
+        let q : c ^ zoomOf t src ≤ c ^ target = pow-le-pow-right positive target-high' in
+        let h : shutters < 2 * unit = omega (arith, sound-shutter t c b sound, sound-shutter t c src sound') in
+        omega (arith, div-lt-iff-lt-mul target-positive .1 h)
+
+    pub merged-is : (n : ℕ) (σ : ℕ) (sums l : List ℕ) (r : Summed) → settledOf sums r ≡ sumsOf t c target (slotOf t n) (shutters / unit) b src σ
+        → l ≡ withShutter t (shutters % unit) (withZoom t (r .zoom) (withPixels t sums b)) → record { bytes = l; state = r .state; draws = r .draws } ≡ mergeOf t c n b src σ
+    unfolding mergeOf sumsOf
+    merged-is n σ sums l r e el = rw (el, es, eu, et) (ap (mergedWith t ((shutterOf t b + shutterOf t src) % c ^ max (zoomOf t b) (zoomOf t src)) b) (rw (es, eu, et) at e))

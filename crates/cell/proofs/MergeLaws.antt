@@ -1,0 +1,122 @@
+-- What a merge leaves of dst: its sums are settled, so they are bytes, and the shutters' remainder is below the unit of
+-- a zoom that settling only raises. Assumes nothing.
+use Prim.Native.Nat.{ℕ, _+_, _-_, _*_, _/_, _%_, _^_, _≤_, _<_, max}
+use mathlib.Core.Path.{_≡_, refl, sym, _∙_}
+use mathlib.Core.Bool.{true}
+use mathlib.Core.List.{List}
+use lib.ListN.{length, getD, length-set}
+use lib.Seq.{length-take-le}
+use native.Mathlib.Omega.{arith}
+use native.Mathlib.Nat.{mod-lt, mul-comm, mul-add, mul-le-mul-left, pow-le-pow-right, lt-of-lt-of-le}
+use Rattle.laws.specs.Steps.{Step}
+use Rattle.rounding.specs.Draws.{stateAfter}
+use Rattle.cell.specs.Cell.{pixelsOf, depthOf, slotOf, pixelsIn, zoomOf, shutterOf, withPixels, withZoom, withShutter, maxZoom, soundOf}
+use Rattle.cell.specs.Merge.{addEach, Settled, settleOf, withCarry, mergeOf}
+use Rattle.cell.specs.Workers.{Fit}
+use Rattle.cell.proofs.SmallLaws.{Small, small-take, bounded-set}
+use Rattle.cell.proofs.CellLaws.{Kept, kept-same, kept-then, with-zoom-zoom, with-zoom-kept, with-pixels-kept, with-shutter-shutter, with-shutter-zoom, with-shutter-kept}
+use Rattle.cell.proofs.PowerLaws.{max-zoom-limit, zoom-fits}
+use Rattle.cell.proofs.SoundLaws.{sound-is}
+use Rattle.cell.proofs.SumsLaws.{after-then, add-draws, add-state, add-length, add-sums, most-at, Settles, settles}
+use Rattle.cell.proofs.MergeCases.{target-low, target-positive, carry-le}
+
+pub record Merged (t c : ℕ) (b : List ℕ) (σ : ℕ) (s : Step) : Type 0 where
+  pub kept : Kept t b (s .bytes)
+  pub sound : soundOf t c (s .bytes) ≡ true
+  pub zoom-ge : zoomOf t b ≤ zoomOf t (s .bytes)
+  pub state : s .state ≡ stateAfter (s .draws) σ
+  pub draws : s .draws ≤ pixelsOf t * maxZoom c
+
+module _ (t c n : ℕ) (b src : List ℕ) (σ : ℕ) (fit : Fit t c (length b)) (fit' : Fit t c (length src)) (sound : soundOf t c b ≡ true) (sound' : soundOf t c src ≡ true) where
+  abbrev target : ℕ
+  target = max (zoomOf t b) (zoomOf t src)
+
+  abbrev shutters : ℕ
+  shutters = shutterOf t b + shutterOf t src
+
+  abbrev added : Step
+  added = addEach c (target - zoomOf t b) (target - zoomOf t src) (pixelsIn t b) (pixelsIn t src) σ
+
+  abbrev carried : List ℕ
+  carried = withCarry (slotOf t n) (shutters / c ^ target) (added .bytes)
+
+  abbrev settled : Settled
+  settled = settleOf c target carried (added .state)
+
+  low : target ≤ maxZoom c
+  low = target-low t c b src sound sound' (fit .c-low) target refl
+
+  pixels-length : (l : List ℕ) → length l ≡ depthOf t → length (pixelsIn t l) ≡ pixelsOf t
+  pixels-length l e = length-take-le (t + 2) l (omega arith)
+
+  carried-length : length carried ≡ pixelsOf t
+  carried-length =
+      length-set (added .bytes) (slotOf t n) _
+      ∙ add-length c (target - zoomOf t b) (target - zoomOf t src) (pixelsIn t b) (pixelsIn t src) σ (pixels-length src (fit' .size-is) ∙ sym (pixels-length b (fit .size-is)))
+      ∙ pixels-length b (fit .size-is)
+
+  -- two pixels of 255, and the carry
+  pub merge-sums : Small b → Small src → (i : ℕ) → getD carried i 0 ≤ 511
+  merge-sums small small' i =
+      let sums : (j : ℕ) → getD (added .bytes) j 0 ≤ 510 = add-sums c (target - zoomOf t b) (target - zoomOf t src) (pixelsIn t b) (pixelsIn t src) σ (fit .c-low)
+      (λ j. omega (arith, small-take (pixelsOf t) b small j)) (λ j. omega (arith, small-take (pixelsOf t) src small' j)) in
+      let carry : shutters / c ^ target ≤ 1 = carry-le t c b src sound sound' (fit .c-low) target refl (c ^ target) shutters refl refl in
+      omega (arith, bounded-set 512 (added .bytes) (slotOf t n) (getD (added .bytes) (slotOf t n) 0 + shutters / c ^ target) (omega (arith, sums (slotOf t n))) (λ j. omega (arith, sums j)) i)
+
+  ends : Settles (maxZoom c - target) target carried (added .state) settled
+  ends = settles c (maxZoom c - target) target carried (added .state)
+
+  zoom-low : settled .zoom ≤ maxZoom c
+  zoom-low = omega (arith, low, ends .zoom-le)
+
+  abbrev filled : List ℕ
+  filled = withPixels t (settled .sums .bytes) b
+
+  filled-kept : Kept t b filled
+  filled-kept =
+      with-pixels-kept t (settled .sums .bytes) b (ends .long ∙ carried-length) b (kept-same t b) (fit .size-is)
+      (λ h i. omega (arith, most-at 255 (settled .sums .bytes) i (ends .low)))
+
+  abbrev raised : List ℕ
+  raised = withZoom t (settled .zoom) filled
+
+  raised-kept : Kept t b raised
+  raised-kept = kept-then t b filled raised filled-kept (with-zoom-kept t (settled .zoom) filled (omega (arith, zoom-low, max-zoom-limit c)))
+
+  raised-size : length raised ≡ depthOf t
+  raised-size = raised-kept .long ∙ fit .size-is
+
+  abbrev rest : ℕ
+  rest = shutters % c ^ target
+
+  merged-zoom : zoomOf t (withShutter t rest raised) ≡ settled .zoom
+  merged-zoom = with-shutter-zoom t rest raised raised-size ∙ with-zoom-zoom t (settled .zoom) filled (filled-kept .long ∙ fit .size-is)
+
+  rest-low : rest < c ^ target
+  rest-low = mod-lt shutters (target-positive t c b src sound sound' (fit .c-low) target refl (c ^ target) shutters refl refl)
+
+  merged-sound : soundOf t c (withShutter t rest raised) ≡ true
+  merged-sound =
+      let positive : 0 < c = omega (arith, fit .c-low) in
+      let fits : c ^ target ≤ 2 ^ 32 - 1 = zoom-fits c (fit .c-low) target low in
+      sound-is t c (withShutter t rest raised) (rw merged-zoom zoom-low)
+      (rw (merged-zoom, with-shutter-shutter t rest raised raised-size (omega (arith, rest-low))) (lt-of-lt-of-le rest-low (pow-le-pow-right positive (ends .zoom-ge))))
+
+  -- a pixel is divided once for each level that its cell lacks, and its sum once for each raise: no more than max_zoom in all
+  few : added .draws + settled .sums .draws ≤ pixelsOf t * maxZoom c
+  few =
+      let levels : ℕ = target - zoomOf t b + (target - zoomOf t src) in
+      let a : added .draws ≤ pixelsOf t * levels = rw (pixels-length b (fit .size-is)) at (add-draws c (target - zoomOf t b) (target - zoomOf t src) (pixelsIn t b) (pixelsIn t src) σ) in
+      let d : settled .sums .draws ≤ pixelsOf t * (maxZoom c - target) = rw (carried-length, mul-comm (maxZoom c - target) (pixelsOf t)) at (ends .draws) in
+      let m : pixelsOf t * (levels + (maxZoom c - target)) ≤ pixelsOf t * maxZoom c = mul-le-mul-left (pixelsOf t) (omega (arith, low)) in
+      omega (arith, mul-add (pixelsOf t) levels (maxZoom c - target))
+
+  pub merged-leaves : Merged t c b σ (mergeOf t c n b src σ)
+  unfolding mergeOf
+  merged-leaves = record {
+    kept = kept-then t b raised _ raised-kept (with-shutter-kept t rest raised raised-size);
+    sound = merged-sound;
+    zoom-ge = rw merged-zoom (omega (arith, ends .zoom-ge));
+    state = ends .state ∙ after-then (added .draws) _ σ (added .state) (add-state c (target - zoomOf t b) (target - zoomOf t src) (pixelsIn t b) (pixelsIn t src) σ);
+    draws = few;
+  }

@@ -1,0 +1,165 @@
+-- The ways out of the code, in the form in which it comes to them: which variant the clock is, what the tests said, what the verdict was.
+use Prim.Native.Nat.{ℕ, _+_, _-_, _%_, _^_, _≤_, _<_}
+use mathlib.Core.Path.{_≡_, refl, sym, ap, _∙_}
+use mathlib.Core.Bool.{Bool, true, false, not}
+use native.Mathlib.Nat.{le-refl, mod-lt}
+use native.Mathlib.Omega.{arith}
+use lib.IntN.{pos}
+use lib.Dec.{T, eqb}
+use lib.Ieee.{Float, binary64, ofBits, inFloat, isNan, sub, div}
+use borrow.Author.Tests.{lt-ltb, le-ltb, eq-eqb, ne-eqb, not-true, not-false}
+use Rattle.laws.specs.Figure.{figure}
+use Rattle.laws.proofs.FigureLaws.{castable, zero-is, one-is}
+use Rattle.laws.specs.Unit.{inUnit}
+use Rattle.laws.proofs.UnitLaws.{zero-unit, unit-number}
+use Rattle.refusal.specs.declared.Verdict.{Verdict}
+use Rattle.refusal.specs.declared.Verdict.the-variants.{Accepted, Refused, Unsound}
+use Rattle.refusal.specs.Refusals.{isAccepted, refuse, outside, whenAccepted}
+use Rattle.refusal.proofs.VerdictLaws.{accepted-is, refused-leaves, refuse-then, not-refused, inside-range, range-inside}
+use Rattle.clock.specs.declared.SubWindowClock.{SubWindowClock}
+use Rattle.clock.specs.declared.SubWindowClock.the-variants.{CountBased, TimeBased}
+use Rattle.clock.specs.declared.FractionAnswer.{FractionAnswer}
+use Rattle.clock.specs.declared.MovedAnswer.{MovedAnswer}
+use Rattle.clock.specs.Clock.{GoodLength, Onward, lengthOf, passedOf, nOf, fractionOf, tickOf, advanceOf, crossedOf, startOf, sameFrame}
+use Rattle.clock.proofs.ClockLaws.{fraction-in-unit, tick-grows, advance-grows}
+use Rattle.clock.specs.Refusals.{refuseLength, lengthVerdict, movedCall, nCall, fractionCall}
+
+-- ---- one clock, of items and of time
+stays : (k step : SubWindowClock) → k ≡ step → Onward k step k
+stays k step e = record { is = e; length = refl; grows = le-refl (nOf k) }
+
+module _ (k : SubWindowClock) (length seen : ℕ) (is : k ≡ CountBased length seen) where
+  pub start-count : CountBased length 0 ≡ startOf k
+  start-count = rw is
+
+  -- where the step makes a clock of as many items and more that passed
+  counted : (to : ℕ) → CountBased length to ≡ tickOf (CountBased length seen) → seen < 2 ^ 64 → Onward k (tickOf k) (CountBased length to)
+  counted to e h = rw is (record { is = e; length = refl; grows = rw e (tick-grows (CountBased length seen) h) })
+
+  pub tick-one : seen < 2 ^ 64 - 1 → Onward k (tickOf k) (CountBased length (seen + 1))
+  tick-one h = counted (seen + 1) (ap (CountBased length) (omega arith)) (omega arith)
+
+  pub tick-full : 2 ^ 64 - 1 ≤ seen → seen < 2 ^ 64 → Onward k (tickOf k) (CountBased length (2 ^ 64 - 1))
+  tick-full h l = counted (2 ^ 64 - 1) (ap (CountBased length) (omega arith)) l
+
+module _ (k : SubWindowClock) (length epoch now : ℕ) (is : k ≡ TimeBased length epoch now) where
+  pub passed-none : now < epoch → 0 ≡ passedOf k
+  passed-none h = rw is (omega arith)
+
+  pub passed-some : now - epoch ≡ passedOf k
+  passed-some = rw is
+
+  pub start-time : TimeBased length epoch epoch ≡ startOf k
+  start-time = rw is
+
+  pub advance-older : (reading : ℕ) → reading < now → Onward k (advanceOf k reading) (TimeBased length epoch now)
+  advance-older reading h = rw is (stays _ _ (ap (TimeBased length epoch) (omega arith)))
+
+  pub advance-newer : (reading : ℕ) → now ≤ reading → Onward k (advanceOf k reading) (TimeBased length epoch reading)
+  advance-newer reading h =
+      let newer : TimeBased length epoch reading ≡ advanceOf (TimeBased length epoch now) reading = ap (TimeBased length epoch) (omega arith) in
+      rw is (record { is = newer; length = refl; grows = rw newer (advance-grows (TimeBased length epoch now) reading) })
+
+-- ---- the fraction's operations
+module _ (k : SubWindowClock) (good : GoodLength k) (length : ℕ) (is : length ≡ lengthOf k) where
+  pub length-exact : T (inFloat binary64 (pos length))
+  length-exact = castable length (omega (arith, good .short))
+
+  pub remainder-exact : (since : ℕ) → T (inFloat binary64 (pos (since % length)))
+  remainder-exact since =
+      let below : since % length < length = mod-lt since (omega (arith, good .some)) in
+      castable (since % length) (omega (arith, good .short))
+
+  pub fraction-worked : (since : ℕ) → since ≡ passedOf k → sub binary64 (ofBits binary64 0x3ff0_0000_0000_0000) (div binary64 (figure (since % length)) (figure length)) ≡ fractionOf k
+  unfolding fractionOf
+  fraction-worked since e = rw (one-is, e, is) refl
+
+-- ---- two clocks
+pub frame-count : (k j : SubWindowClock) (l s l' s' : ℕ) → k ≡ CountBased l s → j ≡ CountBased l' s' → eqb l l' ≡ sameFrame k j
+frame-count k j l s l' s' p q = rw (p, q) refl
+
+module _ (k j : SubWindowClock) (l e n l' e' n' : ℕ) (p : k ≡ TimeBased l e n) (q : j ≡ TimeBased l' e' n') where
+  pub frame-length : (l ≡ l' → ⊥) → eqb l l' ≡ sameFrame k j
+  frame-length h = rw (p, q) (simp (ne-eqb _ _ h))
+
+  pub frame-epoch : l ≡ l' → eqb e e' ≡ sameFrame k j
+  frame-epoch h = rw (p, q) (simp (eq-eqb _ _ h))
+
+-- ---- the length, judged
+module _ (k : SubWindowClock) (length : ℕ) (is : length ≡ lengthOf k) where
+  pub length-none : length < 1 → Refused 3 ≡ lengthVerdict k
+  length-none h = rw (← is) (simp (lt-ltb length 1 h))
+
+  pub length-long : 2 ^ 53 < length → Refused 3 ≡ lengthVerdict k
+  length-long h = rw (← is) (simp (le-ltb length 1 (omega arith), lt-ltb (2 ^ 53) length h))
+
+  pub length-good : 1 ≤ length → length ≤ 2 ^ 53 → Accepted ≡ lengthVerdict k
+  length-good h l = rw (← is) (simp (range-inside 1 (2 ^ 53) length h l))
+
+good-length : (k : SubWindowClock) → lengthVerdict k ≡ Accepted → GoodLength k
+good-length k e =
+    let inside = inside-range 1 (2 ^ 53) (lengthOf k) (not-refused 3 (outside 1 (2 ^ 53) (lengthOf k)) Accepted e .0) in
+    record { some = inside .0; short = inside .1 }
+
+module _ (k : SubWindowClock) (v : Verdict) (judged : v ≡ lengthVerdict k) (ok : Bool) (asked : ok ≡ isAccepted v) where
+  turned : not ok ≡ true → isAccepted v ≡ false
+  turned h = sym asked ∙ not-true ok h
+
+  passed : not ok ≡ false → v ≡ Accepted
+  passed h = accepted-is v (sym asked ∙ not-false ok h)
+
+  pub judged-good : not ok ≡ false → GoodLength k
+  judged-good h = good-length k (sym judged ∙ passed h)
+
+  -- ---- the calls that read
+  pub n-refused : not ok ≡ true → record { verdict = v; n = 0 } ≡ nCall k
+  unfolding nCall
+  n-refused h = rw (← judged, refused-leaves v (nOf k) 0 (turned h)) refl
+
+  pub n-done : not ok ≡ false → (n : ℕ) → n ≡ nOf k → record { verdict = v; n = n } ≡ nCall k
+  unfolding nCall
+  n-done h n e = rw (← judged, passed h, e) refl
+
+  pub fraction-refused : not ok ≡ true → record { verdict = v; fraction = ofBits binary64 0 } ≡ fractionCall k
+  unfolding fractionCall
+  fraction-refused h = rw (← judged, refused-leaves v (fractionOf k) (figure 0) (turned h), zero-is) refl
+
+  pub fraction-done : not ok ≡ false → (x : Float) → x ≡ fractionOf k → record { verdict = v; fraction = x } ≡ fractionCall k
+  unfolding fractionCall
+  fraction-done h x e = rw (← judged, passed h, e) refl
+
+  -- ---- the calls that move: the kind is judged after the length
+  module _ (after : SubWindowClock) (wrong : Bool) where
+    then-kind : refuseLength k (refuse 8 wrong Accepted) ≡ whenAccepted v (refuse 8 wrong Accepted) v
+    then-kind = rw judged (refuse-then 3 (outside 1 (2 ^ 53) (lengthOf k)) (refuse 8 wrong Accepted))
+
+    pub moved-refused : not ok ≡ true → (r : MovedAnswer) → r ≡ record { verdict = v; clock = k; crossed = 0 } → r ≡ movedCall (refuseLength k (refuse 8 wrong Accepted)) k after
+    moved-refused h r e =
+        let out = turned h in
+        rw (then-kind, refused-leaves v (refuse 8 wrong Accepted) v out, refused-leaves v after k out, refused-leaves v (crossedOf k after) 0 out) e
+
+    module _ (h : not ok ≡ false) where
+      on-kind : refuseLength k (refuse 8 wrong Accepted) ≡ refuse 8 wrong Accepted
+      on-kind = then-kind ∙ rw (passed h) refl
+
+      pub kind-refused : wrong ≡ true → (r : MovedAnswer) → r ≡ record { verdict = Refused 8; clock = k; crossed = 0 } → r ≡ movedCall (refuseLength k (refuse 8 wrong Accepted)) k after
+      kind-refused w r e = rw (on-kind, w) e
+
+      pub moved-good : lengthOf after ≡ lengthOf k → GoodLength after
+      moved-good e = let good = judged-good h in record { some = omega (arith, good .some); short = omega (arith, good .short) }
+
+      pub moved-done : wrong ≡ false → (old new : ℕ) → old ≡ nOf k → new ≡ nOf after → record { verdict = v; clock = after; crossed = new - old } ≡ movedCall (refuseLength k (refuse 8 wrong Accepted)) k after
+      moved-done w old new o n = rw (on-kind, w, passed h, o, n) refl
+
+-- the fraction that a call gives is one of 0 to 1 whatever clock is handed in, and so no NaN
+pub fraction-call-unit : (k : SubWindowClock) → inUnit (fractionCall k .fraction) ≡ true
+unfolding fractionCall
+fraction-call-unit k = go (lengthVerdict k) refl
+  where
+    go : (v : Verdict) → v ≡ lengthVerdict k → inUnit (whenAccepted v (fractionOf k) (figure 0)) ≡ true
+    go Accepted e = fraction-in-unit k (good-length k (sym e))
+    go (Refused number) e = zero-unit
+    go (Unsound index) e = zero-unit
+
+pub fraction-call-number : (k : SubWindowClock) (r : FractionAnswer) → r ≡ fractionCall k → T (not (isNan (r .fraction)))
+fraction-call-number k r e = rw e (unit-number (fractionCall k .fraction) (fraction-call-unit k))

@@ -1,0 +1,21 @@
+-- `judged`: each way out is what the length's tests leave of `lengthVerdict`.
+use borrow.Author.Needs.{needs}
+use native.Mathlib.Omega.{arith}
+use Rattle.clock.proofs.CallLaws.{length-none, length-long, length-good}
+use Rattle.clock.proofs.worker.judged.Statement.{statement}
+use Rattle.clock.proofs.worker.judged.Tie as tie
+
+length-requires : tie.Need-length-requires
+length-requires c κs = search needs
+
+returns : tie.Need-returns
+returns c = search (length-none, needs)
+
+returns-2 : tie.Need-returns-2
+returns-2 c = length-long (c .before .before .before .args .clock) _ (c .before .before .length .ensures) (omega arith)
+
+returns-3 : tie.Need-returns-3
+returns-3 c = length-good (c .before .before .before .args .clock) _ (c .before .before .length .ensures) (omega arith) (omega arith)
+
+pub judged-spec : {M : Type 1} → statement M
+judged-spec = tie.close (tie.spec length-requires returns returns-2 returns-3)

@@ -1,0 +1,21 @@
+-- `sub_window`: the quotient of `nOf`, from the two numbers that the callees give.
+use borrow.Author.Needs.{needs}
+use Rattle.clock.specs.Clock.{nOf}
+use Rattle.clock.proofs.worker.sub_window.Statement.{statement}
+use Rattle.clock.proofs.worker.sub_window.Tie as tie
+
+passed-requires : tie.Need-passed-requires
+passed-requires c κs = search needs
+
+length-requires : tie.Need-length-requires
+length-requires c κs = search needs
+
+div-result : tie.Need-div-result
+div-result c = search needs
+
+returns : tie.Need-returns
+unfolding nOf
+returns c = cc
+
+pub sub-window-spec : {M : Type 1} → statement M
+sub-window-spec = tie.close (tie.spec passed-requires length-requires div-result returns)

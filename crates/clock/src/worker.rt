@@ -1,0 +1,186 @@
+// The work of a clock, for the crates above, which have judged its length once for all calls that follow.
+use crate::MovedAnswer;
+use crate::SubWindowClock;
+use refusal::Verdict;
+ghost use mathlib.Core.Path.{_≡_};
+ghost use Prim.Native.Nat.{_≤_};
+ghost use Rattle.refusal.specs.declared.Verdict.the-variants.{Accepted};
+ghost use Rattle.refusal.specs.Refusals.{refuse};
+ghost use Rattle.clock.specs.Clock.{GoodLength, Onward, lengthOf, passedOf, nOf, fractionOf, isCount, tickOf, advanceOf, startOf};
+ghost use Rattle.clock.specs.Refusals.{refuseLength, lengthVerdict, movedCall};
+
+// The longest sub-window: up to here every remainder and length is an f64 exactly.
+const LONGEST: u64 = 1 << 53;
+
+pub fn judged(clock: SubWindowClock) -> Verdict
+    ensures { λ r. ⌜ r ≡ lengthVerdict clock ⌝ }
+{
+    let length = length(clock);
+    if length < 1 {
+        return Verdict::Refused(3);
+    }
+    if length > LONGEST {
+        return Verdict::Refused(3);
+    }
+    Verdict::Accepted
+}
+
+pub fn length(clock: SubWindowClock) -> u64
+    ensures { λ r. ⌜ r ≡ lengthOf clock ⌝ }
+{
+    match clock {
+        SubWindowClock::CountBased {
+            items_per_sub_window,
+            ..
+        } => items_per_sub_window,
+        SubWindowClock::TimeBased { sub_window_len, .. } => sub_window_len,
+    }
+}
+
+pub fn is_count(clock: SubWindowClock) -> bool
+    ensures { λ r. ⌜ r ≡ isCount clock ⌝ }
+{
+    match clock {
+        SubWindowClock::CountBased { .. } => true,
+        SubWindowClock::TimeBased { .. } => false,
+    }
+}
+
+fn passed(clock: SubWindowClock) -> u64
+    ensures { λ r. ⌜ r ≡ passedOf clock ⌝ }
+{
+    match clock {
+        SubWindowClock::CountBased { seen, .. } => seen,
+        SubWindowClock::TimeBased { epoch, now, .. } => {
+            if now < epoch {
+                return 0;
+            }
+            now - epoch
+        }
+    }
+}
+
+pub fn sub_window(clock: SubWindowClock) -> u64
+    requires { ⌜ GoodLength clock ⌝ }
+    ensures { λ r. ⌜ r ≡ nOf clock ⌝ }
+{
+    let since = passed(clock);
+    let length = length(clock);
+    since / length
+}
+
+pub fn fraction(clock: SubWindowClock) -> f64
+    requires { ⌜ GoodLength clock ⌝ }
+    ensures { λ r. ⌜ r ≡ fractionOf clock ⌝ }
+{
+    let since = passed(clock);
+    let length = length(clock);
+    let remainder = since % length;
+    1.0 - (remainder as f64) / (length as f64)
+}
+
+pub fn ticked(clock: SubWindowClock) -> SubWindowClock
+    ensures { λ r. ⌜ Onward clock (tickOf clock) r ⌝ }
+{
+    match clock {
+        SubWindowClock::CountBased {
+            items_per_sub_window,
+            seen,
+        } => {
+            if seen < u64::MAX {
+                return SubWindowClock::CountBased {
+                    items_per_sub_window,
+                    seen: seen + 1,
+                };
+            }
+            // A count that wrapped to 0 would send n backwards.
+            SubWindowClock::CountBased {
+                items_per_sub_window,
+                seen: u64::MAX,
+            }
+        }
+        SubWindowClock::TimeBased { .. } => clock,
+    }
+}
+
+pub fn advanced(clock: SubWindowClock, reading: u64) -> SubWindowClock
+    ensures { λ r. ⌜ Onward clock (advanceOf clock reading) r ⌝ }
+{
+    match clock {
+        SubWindowClock::CountBased { .. } => clock,
+        SubWindowClock::TimeBased {
+            sub_window_len,
+            epoch,
+            now,
+        } => {
+            // An older reading would rewind the window.
+            if reading < now {
+                return clock;
+            }
+            SubWindowClock::TimeBased {
+                sub_window_len,
+                epoch,
+                now: reading,
+            }
+        }
+    }
+}
+
+pub fn started(clock: SubWindowClock) -> SubWindowClock
+    ensures { λ r. ⌜ r ≡ startOf clock ⌝ }
+{
+    match clock {
+        SubWindowClock::CountBased {
+            items_per_sub_window,
+            ..
+        } => {
+            SubWindowClock::CountBased {
+                items_per_sub_window,
+                seen: 0,
+            }
+        }
+        SubWindowClock::TimeBased {
+            sub_window_len,
+            epoch,
+            ..
+        } => {
+            SubWindowClock::TimeBased {
+                sub_window_len,
+                epoch,
+                now: epoch,
+            }
+        }
+    }
+}
+
+// The answer of a call that moves a clock on: refused by 3, then by 8 if the clock is of the wrong kind for it.
+pub fn moved(before: SubWindowClock, after: SubWindowClock, wrong: bool) -> MovedAnswer
+    requires { ⌜ lengthOf after ≡ lengthOf before ⌝ }
+    requires { ⌜ nOf before ≤ nOf after ⌝ }
+    ensures { λ r. ⌜ r ≡ movedCall (refuseLength before (refuse 8 wrong Accepted)) before after ⌝ }
+{
+    let verdict = judged(before);
+    if !verdict.accepted() {
+        return kept(verdict, before);
+    }
+    if wrong {
+        return kept(Verdict::Refused(8), before);
+    }
+    let old = sub_window(before);
+    let new = sub_window(after);
+    MovedAnswer {
+        verdict,
+        clock: after,
+        crossed: new - old,
+    }
+}
+
+fn kept(verdict: Verdict, clock: SubWindowClock) -> MovedAnswer
+    ensures { λ r. ⌜ r ≡ record { verdict = verdict; clock = clock; crossed = 0 } ⌝ }
+{
+    MovedAnswer {
+        verdict,
+        clock,
+        crossed: 0,
+    }
+}

@@ -1,0 +1,10 @@
+pub mod ChoiceLaws
+pub mod PowerLaws
+pub mod PartLaws
+pub mod ByteLaws
+pub mod PassLaws
+pub mod SumLaws
+pub mod FractionValues
+pub mod FigureLaws
+pub mod UnitLaws
+pub mod LinearLaws

@@ -1,0 +1,72 @@
+-- Minimum, maximum and sum go term by term, so what holds of every term up to k carries over by induction on k.
+use Prim.Native.Nat.{ℕ, zero, suc, _+_, _*_, _≤_, _<_}
+use mathlib.Core.Path.{_≡_}
+use mathlib.Core.Logic.{⊎-elim}
+use native.Mathlib.Omega.{arith}
+use native.Mathlib.Nat.{le-refl, le-step, le-suc-iff}
+use Rattle.laws.specs.Sums.{least, largest, total}
+use Rattle.laws.specs.Within.{Within}
+
+-- what holds up to suc k holds up to k, and at suc k
+module _ {P : ℕ → Type 0} (k : ℕ) (h : (i : ℕ) → i ≤ suc k → P i) where
+  earlier : (i : ℕ) → i ≤ k → P i
+  earlier i l = h i (le-step l)
+
+  last : P (suc k)
+  last = h (suc k) (le-refl (suc k))
+
+pub least-le : (k : ℕ) (f : ℕ → ℕ) (i : ℕ) → i ≤ k → least k f ≤ f i
+unfolding least
+least-le zero f i l =
+    let e : i ≡ 0 = omega arith in
+    rw e (le-refl (f 0))
+least-le (suc k) f i l = ⊎-elim (λ q. omega (arith, least-le k f i q)) (λ e. rw e (omega arith)) (le-suc-iff .0 l)
+
+pub le-largest : (k : ℕ) (f : ℕ → ℕ) (i : ℕ) → i ≤ k → f i ≤ largest k f
+unfolding largest
+le-largest zero f i l =
+    let e : i ≡ 0 = omega arith in
+    rw e (le-refl (f 0))
+le-largest (suc k) f i l = ⊎-elim (λ q. omega (arith, le-largest k f i q)) (λ e. rw e (omega arith)) (le-suc-iff .0 l)
+
+pub largest-lt : (k m : ℕ) (f : ℕ → ℕ) → ((i : ℕ) → i ≤ k → f i < m) → largest k f < m
+unfolding largest
+largest-lt zero m f h = h 0 (le-refl 0)
+largest-lt (suc k) m f h = omega (arith, largest-lt k m f (earlier k h), last k h)
+
+pub total-le : (k m : ℕ) (f : ℕ → ℕ) → ((i : ℕ) → i ≤ k → f i ≤ m) → total k f ≤ (k + 1) * m
+unfolding total
+total-le zero m f h = omega (arith, h 0 (le-refl 0))
+total-le (suc k) m f h = omega (arith, total-le k m f (earlier k h), last k h)
+
+pub least-within : (k e : ℕ) (f g : ℕ → ℕ) → ((i : ℕ) → i ≤ k → Within e (f i) (g i)) → Within e (least k f) (least k g)
+unfolding least
+least-within zero e f g h = h 0 (le-refl 0)
+least-within (suc k) e f g h =
+    let a : Within e (least k f) (least k g) = least-within k e f g (earlier k h) in
+    let b : Within e (f (suc k)) (g (suc k)) = last k h in
+    record { low = omega arith; high = omega arith }
+
+-- the first within e, each other within 2 e
+pub total-within : (k e : ℕ) (f g : ℕ → ℕ) → Within e (f 0) (g 0) → ((i : ℕ) → 0 < i → i ≤ k → Within (2 * e) (f i) (g i)) → Within ((2 * k + 1) * e) (total k f) (total k g)
+unfolding total
+total-within zero e f g h m = record { low = omega (arith, h .low); high = omega (arith, h .high) }
+total-within (suc k) e f g h m =
+    let a : Within ((2 * k + 1) * e) (total k f) (total k g) = total-within k e f g h (λ i s l. m i s (le-step l)) in
+    let b : Within (2 * e) (f (suc k)) (g (suc k)) = m (suc k) (omega arith) (le-refl (suc k)) in
+    record { low = omega arith; high = omega arith }
+
+-- equal is within 0
+module _ (k : ℕ) (f g : ℕ → ℕ) (same : (i : ℕ) → i ≤ k → f i ≡ g i) where
+  near : (i : ℕ) → i ≤ k → Within 0 (f i) (g i)
+  near i l = record { low = omega (arith, same i l); high = omega (arith, same i l) }
+
+  pub least-same : least k f ≡ least k g
+  least-same =
+      let w : Within 0 (least k f) (least k g) = least-within k 0 f g near in
+      omega arith
+
+  pub total-same : total k f ≡ total k g
+  total-same =
+      let w : Within ((2 * k + 1) * 0) (total k f) (total k g) = total-within k 0 f g (near 0 (omega arith)) (λ i s l. near i l) in
+      omega arith

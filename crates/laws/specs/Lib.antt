@@ -1,0 +1,9 @@
+pub mod Powers
+pub mod Bytes
+pub mod Parts
+pub mod Steps
+pub mod Passes
+pub mod Sums
+pub mod Within
+pub mod Figure
+pub mod Unit

@@ -1,0 +1,1 @@
+// No functions: definitions and laws that every crate above shares, each said once.

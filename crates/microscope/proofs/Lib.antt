@@ -1,0 +1,15 @@
+pub mod BenchItems
+pub mod SettingsLaws
+pub mod AddressLaws
+pub mod SettingsCases
+pub mod FigureCases
+pub mod JudgedLaws
+pub mod KeyCellLaws
+pub mod FigureLoops
+pub mod FigureLaws
+pub mod EstimateCases
+pub mod JudgeCases
+pub mod JudgeLoops
+pub mod GridLaws
+pub mod KeyLaws
+pub mod WorldLaws

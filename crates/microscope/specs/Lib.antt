@@ -1,0 +1,7 @@
+pub mod Sketch
+pub mod Figures
+pub mod Merge
+pub mod Audit
+pub mod Refusals
+pub mod BenchSheet
+pub mod Workers

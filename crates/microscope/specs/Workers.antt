@@ -1,0 +1,77 @@
+-- What the workers rely on. The public calls have judged it; no public contract cites this file.
+use Prim.Native.Nat.{ℕ, _+_, _^_, _≤_, _<_}
+use mathlib.Core.Path.{_≡_}
+use mathlib.Core.Bool.{true}
+use mathlib.Core.List.{List}
+use lib.Ieee.{Float, binary64, add, mul}
+use lib.ListN.{length, getD}
+use Rattle.laws.specs.Figure.{figure}
+use Rattle.refusal.specs.declared.Verdict.the-variants.{Accepted, Unsound}
+use Rattle.cell.specs.Cell.{unitOf}
+use Rattle.clock.specs.Clock.{lengthOf}
+use Rattle.microscope.specs.declared.MicroCm.{MicroCm}
+use Rattle.microscope.specs.declared.Exact.{Exact}
+use Rattle.microscope.specs.declared.Estimate.{Estimate}
+use Rattle.microscope.specs.Sketch.{gridBytes, cellOf, keyCells}
+use Rattle.microscope.specs.Figures.{keyCell, overOf, underOf, readingOf}
+use Rattle.microscope.specs.Refusals.{keyFits}
+use Rattle.microscope.specs.Audit.{firstUnsound}
+
+-- accepted settings, and a grid of so many bytes that goes with them
+pub record Ready (k : MicroCm) (size : ℕ) : Type 0 where
+  pub t-low : 1 ≤ k .params .t
+  pub t-high : k .params .t ≤ 4096
+  pub c-low : 2 ≤ k .params .c
+  pub c-high : k .params .c ≤ 256
+  pub length-low : 1 ≤ lengthOf (k .clock)
+  pub length-high : lengthOf (k .clock) ≤ 2 ^ 53
+  pub rows-low : 1 ≤ k .rows
+  pub rows-high : k .rows ≤ 128
+  pub cols-low : 2 ≤ k .cols
+  pub cols-high : k .cols ≤ 65536
+  pub size-is : size ≡ gridBytes k
+
+-- each of these cells is sound
+abbrev pub Judged : MicroCm → List ℕ → List ℕ → Type 0
+Judged k g cells = firstUnsound Unsound Accepted k g cells ≡ Accepted
+
+-- a key whose cells were judged
+pub record Readable (k : MicroCm) (key g : List ℕ) : Type 0 where
+  pub ready : Ready k (length g)
+  pub fits : keyFits k key ≡ true
+  pub judged : Judged k g (keyCells k 0 key)
+
+-- the unit of the key's cell in a row
+abbrev pub rowUnit : MicroCm → List ℕ → List ℕ → ℕ → ℕ
+rowUnit k g key row = unitOf (k .params .t) (k .params .c) (cellOf k g (keyCell k key row))
+
+-- the units of the key's cells, in the first places of a list
+abbrev pub Units : MicroCm → List ℕ → List ℕ → ℕ → List ℕ → Type 0
+Units k g key rows units = (row : ℕ) → row < rows → getD units row 0 ≡ rowUnit k g key row
+
+-- a whole number n beside its f64
+abbrev pub exactly : ℕ → Exact
+exactly n = record { whole = n; value = figure n }
+
+-- all figures of a key
+abbrev pub estimateOf : MicroCm → List ℕ → List ℕ → Float → Estimate
+estimateOf k g key fraction = record { reading = readingOf k g key fraction; over = overOf k g key; under = underOf k g key }
+
+-- below n = t the three figures are one
+abbrev pub youngEstimate : Exact → Float → Estimate
+youngEstimate u fraction =
+    record { reading = record { over = u .value; under = u .value; linear = u .value; fraction = fraction }; over = u .whole; under = u .whole }
+
+-- Under, and the oldest term beside it
+abbrev pub agedEstimate : ℕ → ℕ → Float → Estimate
+agedEstimate under oldest fraction =
+    record {
+      reading = record {
+        over = figure (under + oldest);
+        under = figure under;
+        linear = add binary64 (figure under) (mul binary64 fraction (figure oldest));
+        fraction = fraction;
+      };
+      over = under + oldest;
+      under = under;
+    }

@@ -1,0 +1,35 @@
+// Where a cell stands in the grid: by row, then column. Callers have judged the settings and the key.
+use crate::MicroCm;
+ghost use mathlib.Core.Path.{_≡_};
+ghost use mathlib.Core.Bool.{true};
+ghost use Prim.Native.Nat.{ℕ, _+_, _*_, _≤_, _<_};
+ghost use lib.ListN.{length};
+ghost use Rattle.cell.specs.Cell.{depthOf};
+ghost use Rattle.microscope.specs.Sketch.{cellsOf, gridBytes, cellIndex};
+ghost use Rattle.microscope.specs.Figures.{keyCell};
+ghost use Rattle.microscope.specs.Refusals.{keyFits};
+ghost use Rattle.microscope.specs.Workers.{Ready};
+
+pub fn cell_index(sketch: MicroCm, row: usize, col: usize) -> usize
+    requires { ⌜ (row < sketch .rows) × (col < sketch .cols) × (sketch .rows ≤ 128) × (sketch .cols ≤ 65536) ⌝ }
+    ensures { λ r. ⌜ (r ≡ cellIndex sketch row col) × (r < cellsOf sketch) ⌝ }
+{
+    row * sketch.cols + col
+}
+
+// The key's cell in a row.
+pub fn key_cell(sketch: MicroCm, key: &[u32], row: usize) -> usize
+    requires { ⌜ (row < sketch .rows) × (sketch .rows ≤ 128) × (sketch .cols ≤ 65536) × (keyFits sketch (now key) ≡ true) ⌝ }
+    ensures { λ r. ⌜ (r ≡ keyCell sketch (now (key .entry)) row) × (r < cellsOf sketch) ⌝ }
+{
+    cell_index(sketch, row, key[row] as usize)
+}
+
+// Where a cell starts; it ends within the grid.
+pub fn start_of(sketch: MicroCm, size: usize, index: usize) -> usize
+    requires { ⌜ Ready sketch size × (index < cellsOf sketch) ⌝ }
+    ensures { λ r. ⌜ (r ≡ index * depthOf (sketch .params .t)) × (r + depthOf (sketch .params .t) ≤ size) ⌝ }
+{
+    let params = sketch.params;
+    index * cell::layout::depth(params.t)
+}

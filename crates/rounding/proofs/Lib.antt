@@ -1,0 +1,5 @@
+pub mod ProductLaws
+pub mod StateLaws
+pub mod DivisionLaws
+pub mod CallLaws
+pub mod Vectors

@@ -1,0 +1,12 @@
+pub mod FillLaws
+pub mod BlockLaws
+pub mod HeaderLaws
+pub mod BlocksLaws
+pub mod SettingsLaws
+pub mod StoreLaws
+pub mod LoadLaws
+pub mod Theorems
+pub mod ByteLoops
+pub mod BlockWork
+pub mod BlocksLoops
+pub mod FieldWork

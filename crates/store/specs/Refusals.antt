@@ -1,0 +1,89 @@
+-- Document 01, "Turning a call back", for the block store; a load has its own order. Each call's answer, whole, and the bytes that it leaves.
+use Prim.Native.Nat.{ℕ, _-_, _/_, _%_}
+use mathlib.Core.Bool.{Bool, not, _&&_, _||_}
+use mathlib.Core.List.{List}
+use lib.Dec.{ltb, eqb}
+use lib.ListN.{length, take, drop}
+use Rattle.refusal.specs.declared.Verdict.{Verdict}
+use Rattle.refusal.specs.declared.Verdict.the-variants as verdict
+use Rattle.refusal.specs.Refusals.{numberOf, refuse, whenAccepted}
+use Rattle.rounding.specs.Refusals.{refuseState}
+use Rattle.microscope.specs.declared.MicroCm.{MicroCm}
+use Rattle.microscope.specs.Sketch.{gridBytes, allCells}
+use Rattle.microscope.specs.Refusals.{refuseSettings, refuseGrid, refuseSketch, refuseUnsound, noSketch}
+use Rattle.store.specs.declared.LengthAnswer.{LengthAnswer}
+use Rattle.store.specs.declared.Header.{Header}
+use Rattle.store.specs.declared.Header.the-variants.{Sketch, Refused}
+use Rattle.store.specs.declared.LoadAnswer.{LoadAnswer}
+use Rattle.store.specs.Store.{blockBytes, storeLength, storeOf, blocksPass, payloadOf, payloadsOf, fieldOf, sketchIn, allZero}
+
+-- THE EXACT LENGTH of a sketch's store
+abbrev pub lengthVerdict : MicroCm → Verdict
+lengthVerdict k = refuseSettings (k .rows) (k .cols) (k .params) (k .clock) (refuseState (k .rounding .state) verdict.Accepted)
+
+unfoldable pub lengthCall : MicroCm → LengthAnswer
+lengthCall k = record { verdict = lengthVerdict k; length = whenAccepted (lengthVerdict k) (storeLength k) 0 }
+
+-- 16: a store that is not the exact length
+abbrev pub refuseLength : MicroCm → List ℕ → Verdict → Verdict
+refuseLength k store rest = refuse 16 (not (eqb (length store) (storeLength k))) rest
+
+-- SAVE: 1 to 6, 14 over the whole grid, 16
+abbrev pub saveVerdict : MicroCm → List ℕ → List ℕ → Verdict
+saveVerdict k g store = refuseSketch k g (refuseUnsound k g (allCells k) (refuseLength k store verdict.Accepted))
+
+pub record SaveOutcome : Type 0 where
+  pub verdict : Verdict
+  pub store : List ℕ
+
+unfoldable pub saveCall : MicroCm → List ℕ → List ℕ → SaveOutcome
+saveCall k g store = record { verdict = saveVerdict k g store; store = whenAccepted (saveVerdict k g store) (storeOf k g) store }
+
+-- LOAD
+-- 18 over block 0: the form, the kind of clock, a byte that must be 0, the epoch of a count clock
+unfoldable pub wrongForm : List ℕ → Bool
+wrongForm p =
+    not (eqb (fieldOf 4 0 p) 1) || ltb 1 (fieldOf 4 20 p) || not (allZero (drop 56 p)) || (eqb (fieldOf 4 20 p) 0 && not (eqb (fieldOf 8 32 p) 0))
+
+-- the header's answer: 18, then 1 to 5
+abbrev pub headerVerdict : List ℕ → Verdict
+headerVerdict p =
+    let k = sketchIn p in
+    refuse 18 (wrongForm p) (refuseSettings (k .rows) (k .cols) (k .params) (k .clock) (refuseState (k .rounding .state) verdict.Accepted))
+
+unfoldable pub headerIn : List ℕ → Header
+headerIn p = whenAccepted (headerVerdict p) (Sketch (sketchIn p)) (Refused (numberOf (headerVerdict p)))
+
+abbrev pub headerPayload : List ℕ → List ℕ
+headerPayload store = payloadOf (take blockBytes store)
+
+-- what the blocks from 1 on carry: the grid, and the fill behind it
+abbrev pub carried : List ℕ → List ℕ
+carried store = payloadsOf (length store / blockBytes - 1) (drop blockBytes store)
+
+-- 16 for the exact length, 18 for the fill, 6 for the grid lent, 14 over the stored cells
+abbrev pub gridVerdict : MicroCm → List ℕ → List ℕ → Verdict
+gridVerdict k g store =
+    refuseLength k store
+    (refuse 18 (not (allZero (drop (gridBytes k) (carried store))))
+    (refuseGrid k g (refuseUnsound k (take (gridBytes k) (carried store)) (allCells k) verdict.Accepted)))
+
+-- 16 for an empty store or no whole number of blocks, 17 over every block, then the header's answer
+abbrev pub loadVerdict : List ℕ → List ℕ → Verdict
+loadVerdict g store =
+    refuse 16 (eqb (length store) 0 || not (eqb (length store % blockBytes) 0))
+    (refuse 17 (not (blocksPass 0 (length store / blockBytes) store))
+    (whenAccepted (headerVerdict (headerPayload store)) (gridVerdict (sketchIn (headerPayload store)) g store) (headerVerdict (headerPayload store))))
+
+pub record LoadOutcome : Type 0 where
+  pub answer : LoadAnswer
+  pub grid : List ℕ
+
+abbrev pub loadOutcome : LoadAnswer → List ℕ → LoadOutcome
+loadOutcome r g = record { answer = r; grid = g }
+
+unfoldable pub loadCall : List ℕ → List ℕ → LoadOutcome
+loadCall g store =
+    let v = loadVerdict g store in
+    let k = sketchIn (headerPayload store) in
+    loadOutcome (record { verdict = v; sketch = whenAccepted v k noSketch }) (whenAccepted v (take (gridBytes k) (carried store)) g)
