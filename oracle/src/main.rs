@@ -48,9 +48,9 @@ const RECORD_SEED: u64 = 20_230_806;
 
 /// How many calls the recorded answers hold, file by file.
 const RECORD_CALLS: Calls = Calls {
-    draws: 22_000,
-    cells: 50_000,
-    clock: 12_000,
+    draws: 24_000,
+    cells: 62_000,
+    clock: 15_000,
     sketches: 17_000,
 };
 

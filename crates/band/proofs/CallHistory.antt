@@ -22,7 +22,8 @@ use Rattle.microscope.specs.Sketch.{cellsOf, cellIndex, cellOf, crossCell, Worl
 use Rattle.microscope.specs.Refusals.{keyFits}
 use Rattle.microscope.proofs.GridLaws.{Holding, Fits, fits-cell, cell-length, cross-each-cell}
 use Rattle.microscope.proofs.KeyLaws.{key-hit, key-miss}
-use Rattle.microscope.proofs.WorldLaws.{GoodWorld, good-room, fits-length, fits-key}
+use Rattle.microscope.proofs.WorldLaws.{GoodWorld, good-room, fits-key}
+use Rattle.microscope.proofs.AddressLaws.{key-rows}
 use Rattle.band.specs.Tally.{counted}
 use Rattle.band.specs.Peak.{zoomNow, zoomInside}
 use Rattle.band.proofs.TallyLaws.{counted-hit, counted-miss}
@@ -79,7 +80,7 @@ module _ (M row col : ℕ) (w : World) (fit : Fits (w .sketch)) (good : GoodWorl
   -- RECORD
   module _ (key : List ℕ) (fits : keyFits k key ≡ true) (items : ℕ → ℕ → ℕ → ℕ) where
     inside : row < length key
-    inside = rw (fits-length k key fits) hr
+    inside = rw (key-rows k key fits) hr
 
     abbrev at : ℕ → List ℕ → List ℕ
     at col g = cellOf k g (cellIndex k row col)

@@ -1,6 +1,6 @@
 -- Each pixel after each stage of a crossing: a pixel is written at its own slot alone.
 use Prim.Native.Nat.{ℕ, zero, suc, _+_, _*_, _≤_, _<_}
-use mathlib.Core.Path.{_≡_, refl, sym, ap, _∙_}
+use mathlib.Core.Path.{_≡_, refl, sym, _∙_}
 use mathlib.Core.List.{List, [], _∷_}
 use lib.ListN.{length, getD, replicate, length-set, length-replicate, getD-replicate}
 use lib.Seq.{getD-set-same, getD-set-other, getD-take, length-front, length-take-le}
@@ -10,6 +10,7 @@ use native.Mathlib.Decide.{ℕ-discrete}
 use Rattle.cell.specs.Cell.{pixelsOf, depthOf, slotOf, pixelsIn, pixelOf, zoomOf, withPixel, withPixels}
 use Rattle.cell.specs.Crossing.{clearOf, emptied, timesEach, zoomedIn}
 use Rattle.cell.specs.Workers.{Fit}
+use Rattle.microscope.proofs.GridLaws.{times-length}
 use Rattle.cell.proofs.CellLaws.{slot-inside, with-zoom-pixel, with-pixels-pixel, with-pixels-zoom, with-shutter-pixel, with-shutter-zoom}
 
 -- CLEAR: a slot that is none of those cleared stays
@@ -67,11 +68,6 @@ module _ (t c : ℕ) (b : List ℕ) (fit : Fit t c (length b)) where
   emptied-pixel i l = with-shutter-pixel t 0 (withPixels t zeros b) size i l ∙ with-pixels-pixel t zeros b many i l ∙ getD-replicate (pixelsOf t) i 0 0 l
 
 -- ONE LEVEL IN: each pixel times c
-times-length : (c : ℕ) (l : List ℕ) → length (timesEach c l) ≡ length l
-unfolding timesEach
-times-length c [] = refl
-times-length c (x ∷ xs) = ap suc (times-length c xs)
-
 times-pixel : (c : ℕ) (l : List ℕ) (i : ℕ) → getD (timesEach c l) i 0 ≡ getD l i 0 * c
 unfolding timesEach
 times-pixel c [] i = sym (zero-mul c)

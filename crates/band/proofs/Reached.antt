@@ -14,7 +14,7 @@ use Rattle.clock.proofs.ClockLaws.{Keeps, tick-keeps, advance-keeps, start-keep
 use Rattle.microscope.specs.Sketch.{World, recorded, moved}
 use Rattle.microscope.specs.Refusals.{keyFits, world}
 use Rattle.microscope.proofs.SettingsLaws.{good-settings}
-use Rattle.microscope.proofs.GridLaws.{both}
+use Rattle.microscope.proofs.AddressLaws.{both-hold}
 use Rattle.microscope.proofs.WorldLaws.{Good, GoodWorld, fresh-good, recorded-good, moved-good, settings-fit}
 use Rattle.band.specs.Calls.{Call, update, updateAt, advance, Settings, fresh}
 use Rattle.band.specs.Tally.{Tally, keyAccepted, accepts, empty, noted}
@@ -81,7 +81,7 @@ module _ (S : Settings) (ok : AcceptedSettings S) where
   -- a call whose columns the tally accepts has them right
   pub key-fits : (clock : SubWindowClock) (σ : ℕ) (key : List ℕ) (more : Bool) → (keyAccepted S key && more) ≡ true → keyFits (sketchOf S clock σ) key ≡ true
   unfolding keyFits
-  key-fits clock σ key more e = both (keyAccepted S key) more e .0
+  key-fits clock σ key more e = both-hold (keyAccepted S key) more e .0
 
   -- AN ACCEPTED CALL
   module _ (T : Tally) (σ : ℕ) (g : List ℕ) (h : Reached S T σ g) where

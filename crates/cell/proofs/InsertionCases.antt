@@ -3,7 +3,6 @@ use Prim.Native.Nat.{ℕ, _+_, _^_, _≤_, _<_}
 use mathlib.Core.Path.{_≡_, refl, ap, _∙_}
 use mathlib.Core.List.{List, _++_}
 use lib.ListN.{take, drop, set}
-use lib.Seq.{take-set-le}
 use native.Mathlib.Omega.{arith}
 use borrow.Author.Tests.{lt-ltb, le-ltb}
 use Rattle.laws.specs.Steps.{still}
@@ -11,7 +10,7 @@ use Rattle.cell.specs.declared.Drawn.{Drawn}
 use Rattle.cell.specs.Cell.{pixelsOf, slotOf, pixelOf, zoomOf, shutterOf, unitOf, withPixel, withZoom, withShutter, maxZoom}
 use Rattle.cell.specs.Insertion.{divideEach, pixelStep, zoomOutOf, creditOf, insertOf}
 use Rattle.cell.specs.Workers.{Judged, stepOf}
-use Rattle.cell.proofs.CellLaws.{slot-inside}
+use Rattle.cell.proofs.CellLaws.{slot-inside, with-zoom-pixels}
 use Rattle.cell.proofs.SoundLaws.{sound-unit}
 
 module _ (t c slot : ℕ) (b : List ℕ) (σ : ℕ) where
@@ -25,9 +24,8 @@ module _ (t c slot : ℕ) (b : List ℕ) (σ : ℕ) where
     unfolding creditOf zoomOutOf
     credit-zoomed raised px r p h er ep e =
         let h' : zoomOf t b < maxZoom c = rw (← zoom, ← limit) h in
-        let q : take (t + 2) (set b (t + 2) (zoomOf t b + 1)) ≡ take (t + 2) b = take-set-le (t + 2) b (t + 2) (zoomOf t b + 1) (omega arith) in
         let er' : raised ≡ withZoom t (zoomOf t b + 1) b = er ∙ rw zoom refl in
-        simp (le-ltb _ _ full, lt-ltb _ _ h') (rw (ep, er') (ap (pixelStep t (withZoom t (zoomOf t b + 1) b)) (rw (ep, er', q) at e)))
+        simp (le-ltb _ _ full, lt-ltb _ _ h') (rw (ep, er') (ap (pixelStep t (withZoom t (zoomOf t b + 1) b)) (rw (ep, er', with-zoom-pixels t (zoomOf t b + 1) b) at e)))
 
     pub credit-dropped : top ≤ z → still b σ ≡ creditOf t c slot b σ
     unfolding creditOf

@@ -1,7 +1,7 @@
 -- A step on one cell writes that cell's bytes alone, so a grid after many steps is known cell by cell.
 use Prim.Native.Nat.{ℕ, zero, suc, _+_, _*_, _≤_, _<_}
 use mathlib.Core.Path.{_≡_, refl, sym, ap, _∙_}
-use mathlib.Core.Bool.{Bool, true, false, _&&_, false≢true}
+use mathlib.Core.Bool.{true}
 use mathlib.Core.List.{List, [], _∷_}
 use lib.Dec.{ltb, eqb}
 use lib.ListN.{length, length-set}
@@ -24,17 +24,13 @@ use Rattle.cell.proofs.CrossingLaws.{inside-quiet, Crossed, crossed-leaves}
 use Rattle.microscope.specs.declared.MicroCm.{MicroCm}
 use Rattle.microscope.specs.Sketch.{cellsOf, cellOf, insertAt, insertEach, crossCell, crossEach}
 use Rattle.microscope.specs.Refusals.{allBelow}
-
--- a test of two parts holds in each
-pub both : (a b : Bool) → (a && b) ≡ true → (a ≡ true) × (b ≡ true)
-both true b e = (refl, e)
-both false b e = absurd (false≢true e)
+use Rattle.microscope.proofs.AddressLaws.{both-hold}
 
 -- a list's first, and the rest
 module _ (m x : ℕ) (xs : List ℕ) (low : allBelow m (x ∷ xs) ≡ true) where
   tests : (ltb x m ≡ true) × (allBelow m xs ≡ true)
   unfolding allBelow
-  tests = both (ltb x m) (allBelow m xs) low
+  tests = both-hold (ltb x m) (allBelow m xs) low
 
   pub below-first : x < m
   below-first = ltb-true x m (tests .0)
@@ -57,7 +53,7 @@ module _ (k : MicroCm) where
       part-length (j * d) d g (piece-room d (cellsOf k) j (length g) l room)
 
 -- A CROSSING leaves as many bytes, whether the cell is sound or not
-times-length : (c : ℕ) (l : List ℕ) → length (timesEach c l) ≡ length l
+pub times-length : (c : ℕ) (l : List ℕ) → length (timesEach c l) ≡ length l
 unfolding timesEach
 times-length c [] = refl
 times-length c (x ∷ xs) = ap suc (times-length c xs)

@@ -7,7 +7,7 @@ use lib.Dec.{eqb}
 use lib.ListN.{length, getD, replicate, length-replicate, length-take, List·getD-eq-default}
 use native.Mathlib.Omega.{arith}
 use native.Mathlib.Decide.{decLt}
-use borrow.Author.Tests.{eqb-true, lt-ltb}
+use borrow.Author.Tests.{lt-ltb}
 use Rattle.laws.specs.Bytes.{numberOf}
 use Rattle.laws.specs.Parts.{part}
 use Rattle.laws.proofs.PartLaws.{part-at}
@@ -25,8 +25,9 @@ use Rattle.microscope.specs.Sketch.{cellsOf, gridBytes, cellOf, keyCells
 use Rattle.microscope.specs.Refusals.{allBelow, keyFits}
 use Rattle.microscope.specs.Audit.{firstUnsound}
 use Rattle.microscope.proofs.SettingsLaws.{GoodSettings}
+use Rattle.microscope.proofs.AddressLaws.{both-hold, key-rows}
 use Rattle.microscope.proofs.KeyLaws.{KeyFrom, key-cells-below}
-use Rattle.microscope.proofs.GridLaws.{both, below-first, below-rest, Holding, Fits, fits-cell, insert-each-length, insert-each-drawn, insert-each-keeps, cross-each-length, cross-each-sound, cross-each-drawn}
+use Rattle.microscope.proofs.GridLaws.{below-first, below-rest, Holding, Fits, fits-cell, insert-each-length, insert-each-drawn, insert-each-keeps, cross-each-length, cross-each-sound, cross-each-drawn}
 
 -- a grid of the right length, a state that is not 0, and every cell sound
 pub record Good (k : MicroCm) (g : List ℕ) (σ : ℕ) : Type 0 where
@@ -38,16 +39,9 @@ abbrev pub GoodWorld : World → Type 0
 GoodWorld w = Good (w .sketch) (w .grid) (w .sketch .rounding .state)
 
 -- a key with one column a row, each below cols
-module _ (k : MicroCm) (key : List ℕ) (fits : keyFits k key ≡ true) where
-  tests : (eqb (length key) (k .rows) ≡ true) × (allBelow (k .cols) key ≡ true)
-  unfolding keyFits
-  tests = both (eqb (length key) (k .rows)) (allBelow (k .cols) key) fits
-
-  pub fits-length : length key ≡ k .rows
-  fits-length = eqb-true (length key) (k .rows) (tests .0)
-
-  pub fits-key : KeyFrom k 0 key
-  fits-key = record { low = tests .1; few = omega (arith, fits-length) }
+pub fits-key : (k : MicroCm) (key : List ℕ) → keyFits k key ≡ true → KeyFrom k 0 key
+unfolding keyFits
+fits-key k key fits = record { low = both-hold (eqb (length key) (k .rows)) (allBelow (k .cols) key) fits .1; few = omega (arith, key-rows k key fits) }
 
 pub good-room : (k : MicroCm) (g : List ℕ) (σ : ℕ) → Good k g σ → Holding k g
 good-room k g σ h = omega (arith, h .whole)
