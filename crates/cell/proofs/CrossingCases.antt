@@ -29,9 +29,9 @@ module _ (t p : ℕ) (b : List ℕ) (e : p ≡ pixelsOf t) where
   front-low m low = rw e low
 
   -- THE FAR JUMP
-  pub emptied-is : length b ≡ depthOf t → (l l' : List ℕ) → l ≡ replicate (length (take p b)) 0 → l' ≡ withShutter t 0 (l ++ drop p b) → l' ≡ emptied t b
+  pub emptied-is : length b ≡ depthOf t → (l l' : List ℕ) (σ : ℕ) → l ≡ replicate (length (take p b)) 0 → l' ≡ withShutter t 0 (l ++ drop p b) → still l' σ ≡ still (emptied t b) σ
   unfolding emptied
-  emptied-is d l l' el el' =
+  emptied-is d l l' σ el el' =
       let q : length (take (pixelsOf t) b) ≡ pixelsOf t = length-take-le (pixelsOf t) b (omega arith) in
       rw (el', el, e, q) refl
 
@@ -93,6 +93,10 @@ module _ (t c slot : ℕ) (b : List ℕ) (σ s u : ℕ) (es : s ≡ shutterOf t 
         → record { bytes = l; state = r .state; draws = d .draws + r .draws } ≡ closeOf t c slot b σ
     close-credit h l r e = rw closing (simp (ne-eqb _ _ h) (ap (later (d .draws)) e))
 
+-- the draws of each way out
+pub still-few : (b l : List ℕ) (σ k : ℕ) (r : Drawn) → stepOf l r ≡ still b σ → r .draws ≤ k + 3
+still-few b l σ k r e = omega (arith, ap (λ (s : Step). s .draws) e)
+
 pub division-few : (v u σ k : ℕ) (d : Divided) → d ≡ roundedDiv v u σ → d .draws ≤ k + 3
 division-few v u σ k d e = rw e (omega (arith, draws-le v u σ))
 
@@ -105,11 +109,11 @@ module _ (v u σ t k : ℕ) (d : Divided) (e : d ≡ roundedDiv v u σ) (h : k �
 
 -- UP TO THE ZOOMING IN
 module _ (t c n crossed p : ℕ) (b : List ℕ) (σ : ℕ) (ep : p ≡ pixelsOf t) where
-  pub inside-far : p ≤ crossed → (l : List ℕ) → l ≡ emptied t b → still l σ ≡ insideOf t c n crossed b σ
+  pub inside-far : p ≤ crossed → (l : List ℕ) (r : Drawn) → stepOf l r ≡ still (emptied t b) σ → stepOf l r ≡ insideOf t c n crossed b σ
   unfolding insideOf
-  inside-far h l e =
+  inside-far h l r e =
       let q : pixelsOf t ≤ crossed = omega arith in
-      simp (le-leb _ _ q) (rw e refl)
+      e ∙ sym (simp (le-leb _ _ q))
 
   pub crossed-known : crossed < p → (crossed < pixelsOf t → crossed ≤ n) → crossed ≤ n
   crossed-known h f = f (omega arith)

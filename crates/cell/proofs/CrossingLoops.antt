@@ -97,17 +97,16 @@ module _ (t : ℕ) (b₀ : List ℕ) (ended count : ℕ) where
         let e : left ≡ 0 = omega arith in
         sym (w .done ∙ rw e refl)
 
-    module _ (slot : ℕ) (e : slot ≡ slotOf t (window + 1)) where
-      pub clearing-in : pixelsOf t ≤ length b₀ → slot < length b
-      clearing-in room =
-          let positive : 0 < pixelsOf t = omega arith in
-          rw e (omega (arith, mod-lt (window + 1) positive, w .same))
+    pub clearing-in : (slot x : ℕ) → slot ≡ slotOf t x → pixelsOf t ≤ length b₀ → slot < length b
+    clearing-in slot x e room =
+        let positive : 0 < pixelsOf t = omega arith in
+        rw e (omega (arith, mod-lt x positive, w .same))
 
-      pub clearing-on : 0 < left → Clearing t b₀ ended count (set b slot 0) (window + 1) (left - 1)
-      unfolding clearOf
-      clearing-on h =
-          let s : left ≡ suc (left - 1) = omega arith in
-          record { done = (rw s at (w .done)) ∙ rw e refl; same = length-set b slot 0 ∙ w .same; passed = omega (arith, w .passed) }
+    pub clearing-on : (slot k : ℕ) → slot ≡ slotOf t (window + 1) → k < left → Clearing t b₀ ended count (set b slot 0) (window + 1) (left - 1)
+    unfolding clearOf
+    clearing-on slot k e h =
+        let s : left ≡ suc (left - 1) = omega arith in
+        record { done = (rw s at (w .done)) ∙ rw e refl; same = length-set b slot 0 ∙ w .same; passed = omega (arith, w .passed) }
 
 -- ZERO ALL: a fill
 pub zeros-on : (l₀ l : List ℕ) (i : ℕ) → l ≡ replicate i 0 ++ drop i l₀ → length l ≡ length l₀ → i < length l → set l i 0 ≡ replicate (i + 1) 0 ++ drop (i + 1) l₀

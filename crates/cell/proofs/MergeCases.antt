@@ -8,6 +8,7 @@ use lib.ListN.{length, take, drop, getD, length-take}
 use native.Mathlib.Nat.{add-assoc, zero-add, add-zero, mod-lt, pow-le-pow-right, one-le-pow, div-lt-iff-lt-mul}
 use native.Mathlib.Omega.{arith}
 use borrow.Author.Tests.{not-true, not-false}
+use Rattle.laws.specs.Steps.{Step}
 use Rattle.cell.specs.declared.Drawn.{Drawn}
 use Rattle.cell.specs.declared.sums.Summed.{Summed}
 use Rattle.cell.specs.Cell.{pixelsOf, depthOf, slotOf, pixelsIn, zoomOf, shutterOf, withPixels, withZoom, withShutter, maxZoom, soundOf}
@@ -16,6 +17,7 @@ use Rattle.cell.specs.Crossing.{allAtMost}
 use Rattle.cell.specs.Merge.{addEach, cutEach, Settled, settledLater, settleFrom, settleOf, withCarry, mergedWith, mergeOf}
 use Rattle.cell.specs.Workers.{stepOf}
 use Rattle.cell.specs.MergeWorkers.{settledOf, sumsOf}
+use Rattle.cell.proofs.DivideLaws.{divide-draws}
 use Rattle.cell.proofs.PowerLaws.{max-zoom-limit, zoom-fits}
 use Rattle.cell.proofs.SoundLaws.{sound-zoom, sound-shutter}
 use Rattle.cell.proofs.SumsLaws.{most-at, cut-low, settle-fit, settle-raise, settle-few}
@@ -33,6 +35,10 @@ module _ (c z₀ : ℕ) (l₀ : List ℕ) (σ : ℕ) where
   pub settling-few : (l : List ℕ) (s n z : ℕ) → Settling c z₀ l₀ σ l s n z → length l₀ ≤ 4098 → n ≤ 31 * 4098
   settling-few l s n z w few =
       omega (arith, ap (λ (r : Settled). r .sums .draws) (w .done), settle-few c (maxZoom c - z₀) z₀ l₀ σ (omega (arith, max-zoom-limit c)) few)
+
+  pub settling-fits : (l : List ℕ) (s n z : ℕ) → Settling c z₀ l₀ σ l s n z → length l₀ ≤ 4098 → (τ : ℕ) (l' : List ℕ) (d : Drawn) → stepOf l' d ≡ divideEach c l τ → n + d .draws < 2 ^ 32
+  settling-fits l s n z w few τ l' d e =
+      omega (arith, settling-few l s n z w few, ap (λ (r : Step). r .draws) e, divide-draws c l τ, w .same)
 
   module _ (l : List ℕ) (s n z : ℕ) (w : Settling c z₀ l₀ σ l s n z) (fit : Bool) (ef : fit ≡ allAtMost 255 l) where
     pub settling-fit : not fit ≡ false → record { zoom = z; sums = record { bytes = l; state = s; draws = n } } ≡ settleOf c z₀ l₀ σ
@@ -60,9 +66,6 @@ module _ (c z₀ : ℕ) (l₀ : List ℕ) (σ : ℕ) where
 
           pub settling-on : length l' ≡ length l → Settling c z₀ l₀ σ l' (d .state) (n + d .draws) (z + 1)
           settling-on same = record { done = settling-turn ∙ simp add-assoc; same = same ∙ w .same; most = omega arith }
-
-          pub settling-fits : length l' ≡ length l → length l₀ ≤ 4098 → n + d .draws < 2 ^ 32
-          settling-fits same few = omega (arith, settling-few l' (d .state) (n + d .draws) (z + 1) (settling-on same) few)
 
 pub cut-known : (l l' : List ℕ) → l' ≡ cutEach l → allAtMost 255 l' ≡ true
 cut-known l l' e = rw e (cut-low l)

@@ -52,15 +52,17 @@ module _ (levels c v σ : ℕ) where
       scaling-on = record { done = scaling-turn ∙ simp add-assoc }
 
 -- ADD A PAIR
-module _ (c down down' σ v w : ℕ) (a b : Divided) (ea : a ≡ scaleDown c down v σ) (eb : b ≡ scaleDown c down' w (a .state)) where
-  pub pair-is : (x y : ℕ) → v ≡ x → w ≡ y → record { value = a .value + b .value; state = b .state; draws = a .draws + b .draws } ≡ addPair c down down' x y σ
-  unfolding addPair
-  pair-is x y ev ew = rw (← ev, ← ew, ← ea, ← eb) refl
+pub pair-is : (c down down' σ x y v w : ℕ) (a b : Divided) → v ≡ x → w ≡ y → a ≡ scaleDown c down v σ → b ≡ scaleDown c down' w (a .state)
+    → record { value = a .value + b .value; state = b .state; draws = a .draws + b .draws } ≡ addPair c down down' x y σ
+unfolding addPair
+pair-is c down down' σ x y v w a b ev ew ea eb = rw (← ev, ← ew, ← ea, ← eb) refl
 
+-- whatever the states
+module _ (c down down' v w σ τ : ℕ) (a b : Divided) (ea : a ≡ scaleDown c down v σ) (eb : b ≡ scaleDown c down' w τ) where
   pub pair-low : 2 ≤ c → v < 256 → w < 256 → a .value + b .value ≤ 510
   pair-low base hv hw =
       let p : a .value ≤ 255 = rw ea (scale-value c down v σ base (omega arith)) in
-      let q : b .value ≤ 255 = rw eb (scale-value c down' w (a .state) base (omega arith)) in
+      let q : b .value ≤ 255 = rw eb (scale-value c down' w τ base (omega arith)) in
       omega arith
 
   pub pair-fits : 2 ≤ c → v < 256 → w < 256 → a .value + b .value < 2 ^ 64
@@ -69,7 +71,7 @@ module _ (c down down' σ v w : ℕ) (a b : Divided) (ea : a ≡ scaleDown c dow
   pub pair-few : down < 2 ^ 8 → down' < 2 ^ 8 → a .draws + b .draws < 2 ^ 32
   pair-few hd hd' =
       let p : a .draws ≤ down = rw ea (scale-draws c down v σ) in
-      let q : b .draws ≤ down' = rw eb (scale-draws c down' w (a .state)) in
+      let q : b .draws ≤ down' = rw eb (scale-draws c down' w τ) in
       omega arith
 
 -- ADD EACH

@@ -13,6 +13,7 @@ ghost use mathlib.Core.Bool.{true, _&&_};
 ghost use lib.Dec.{ltb};
 ghost use Prim.Native.Nat.{ℕ, _+_, _-_, _*_, _^_, _<_, _≤_};
 ghost use lib.ListN.{length, replicate};
+ghost use Rattle.laws.specs.Steps.{still};
 ghost use Rattle.cell.specs.Cell.{pixelsOf, pixelsIn, depthOf, soundOf};
 ghost use Rattle.cell.specs.Crossing.{closeOf, clearOf, emptied, insideOf, ceilingOf, allAtMost, timesEach, zoomedIn, zoomInOf, crossOf};
 ghost use Rattle.cell.specs.Workers.{Fit, Judged, stepOf};
@@ -111,9 +112,8 @@ fn enter_unzoomed(
     ensures { λ r. ⌜ stepOf (now (cell .exit)) r ≡ insideOf t c n crossed (now (cell .entry)) state ⌝ }
     ensures { λ r. ⌜ r .draws ≤ t + 3 ⌝ }
 {
-    if (layout::pixels(t) as u64) <= crossed {
-        empty(cell, t);
-        return Drawn { state, draws: 0 };
+    if crossed >= (layout::pixels(t) as u64) {
+        return empty(cell, t, state);
     }
     // What the shutter holds belongs to the sub-window that ends: in the new pixel it would count for a whole window.
     let ended = n - crossed;
@@ -151,8 +151,8 @@ fn close(
     }
 }
 
-// Clears the pixels of the `count` sub-windows after `ended`. The sub-window cleared last may be 2^64 - 1: none is
-// numbered that is not cleared.
+// Clears the pixels of the `count` sub-windows after `ended`. The last of them may be sub-window 2^64 - 1, so the
+// number goes up before a pixel is cleared, and not after.
 fn clear(cell: &mut [u8], t: usize, ended: u64, count: u64)
     requires { ⌜ (t ≤ 4096) × (pixelsOf t ≤ length (now cell)) × (ended + count < 2 ^ 64) ⌝ }
     ensures { λ _. ⌜ now (cell .exit) ≡ clearOf t count (ended + 1) (now (cell .entry)) ⌝ }
@@ -167,14 +167,15 @@ fn clear(cell: &mut [u8], t: usize, ended: u64, count: u64)
     }
 }
 
-// The far jump: nothing of the window is left.
-fn empty(cell: &mut [u8], t: usize)
+// The far jump: nothing of the window is left, and nothing is rounded.
+fn empty(cell: &mut [u8], t: usize, state: u64) -> Drawn
     requires { ⌜ (t ≤ 4096) × (length (now cell) ≡ depthOf t) ⌝ }
-    ensures { λ _. ⌜ now (cell .exit) ≡ emptied t (now (cell .entry)) ⌝ }
+    ensures { λ r. ⌜ stepOf (now (cell .exit)) r ≡ still (emptied t (now (cell .entry))) state ⌝ }
 {
     let pixels = layout::pixels(t);
     zero_all(&mut cell[..pixels]);
     layout::set_shutter(cell, t, 0);
+    Drawn { state, draws: 0 }
 }
 
 fn zero_all(pixels: &mut [u8])

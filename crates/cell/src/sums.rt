@@ -154,7 +154,8 @@ fn settle(sums: &mut [u32], zoom: u8, c: u32, state: u64) -> Summed
     let mut after = state;
     let mut draws: u32 = 0;
     while !all_fit(&sums[..]) {
-        if power::max_zoom(c) <= target {
+        let top = power::max_zoom(c);
+        if top <= target {
             cut_each(sums);
             return Summed {
                 zoom: target,
@@ -229,8 +230,8 @@ fn cut_each(sums: &mut [u32])
 fn cut(sum: u32) -> u32
     ensures { λ r. ⌜ r ≡ min sum 255 ⌝ }
 {
-    if sum < 255 {
-        return sum;
+    if sum > 255 {
+        return 255;
     }
-    255
+    sum
 }

@@ -13,3 +13,6 @@ pub mod JudgeLoops
 pub mod GridLaws
 pub mod KeyLaws
 pub mod WorldLaws
+pub mod RecordingCases
+pub mod RecordingLoop
+pub mod CrossingPass

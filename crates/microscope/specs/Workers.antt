@@ -1,17 +1,22 @@
 -- What the workers rely on. The public calls have judged it; no public contract cites this file.
-use Prim.Native.Nat.{ℕ, _+_, _^_, _≤_, _<_}
+use Prim.Native.Nat.{ℕ, _+_, _*_, _^_, _≤_, _<_}
 use mathlib.Core.Path.{_≡_}
 use mathlib.Core.Bool.{true}
 use mathlib.Core.List.{List}
 use lib.Ieee.{Float, binary64, add, mul}
 use lib.ListN.{length, getD}
+use Rattle.laws.specs.Steps.{Step}
 use Rattle.laws.specs.Figure.{figure}
 use Rattle.refusal.specs.declared.Verdict.the-variants.{Accepted, Unsound}
-use Rattle.cell.specs.Cell.{unitOf}
+use Rattle.laws.specs.Parts.{part}
+use Rattle.cell.specs.Cell.{depthOf, unitOf, soundOf}
+use Rattle.cell.specs.Crossing.{crossOf}
+use Rattle.cell.specs.Workers.{Fit}
 use Rattle.clock.specs.Clock.{lengthOf}
 use Rattle.microscope.specs.declared.MicroCm.{MicroCm}
 use Rattle.microscope.specs.declared.Exact.{Exact}
 use Rattle.microscope.specs.declared.Estimate.{Estimate}
+use Rattle.microscope.specs.declared.Passed.{Passed}
 use Rattle.microscope.specs.Sketch.{gridBytes, cellOf, keyCells}
 use Rattle.microscope.specs.Figures.{keyCell, overOf, underOf, readingOf}
 use Rattle.microscope.specs.Refusals.{keyFits}
@@ -75,3 +80,18 @@ agedEstimate under oldest fraction =
       over = under + oldest;
       under = under;
     }
+
+-- the grid that a pass leaves, with what it returned beside it
+abbrev pub passOf : List ℕ → Passed → Step
+passOf g r = record { bytes = g; state = r .state; draws = r .draws }
+
+-- so many cells that were judged, and room for them
+pub record Crossable (t c count : ℕ) (g : List ℕ) : Type 0 where
+  pub fit : Fit t c (depthOf t)
+  pub few : count ≤ 2 ^ 23
+  pub room : count * depthOf t ≤ length g
+  pub sound : (i : ℕ) → i < count → soundOf t c (part (i * depthOf t) (depthOf t) g) ≡ true
+
+-- a cell crosses, whatever its index
+abbrev pub crossPiece : ℕ → ℕ → ℕ → ℕ → ℕ → List ℕ → ℕ → Step
+crossPiece t c n crossed j b σ = crossOf t c n crossed b σ

@@ -5,6 +5,7 @@
 pub mod figures;
 pub mod grid;
 pub mod judge;
+pub mod recording;
 
 use cell::MicroParams;
 use clock::SubWindowClock;
@@ -78,4 +79,10 @@ pub struct Estimate {
     pub reading: Reading,
     pub over: u64,
     pub under: u64,
+}
+
+// What a pass over cells returns: the random state after it, and how many draws it made.
+pub struct Passed {
+    pub state: u64,
+    pub draws: u64,
 }

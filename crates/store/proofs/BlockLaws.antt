@@ -20,7 +20,7 @@ pub weighed-cons : (i x : ℕ) (xs : List ℕ) → weighedFrom i (x ∷ xs) ≡ 
 unfolding weighedFrom
 weighed-cons i x xs = refl
 
-pub weighed-limit : (m i : ℕ) (l : List ℕ) → i + length l ≤ m → Small l → weighedFrom i l ≤ length l * (255 * m)
+weighed-limit : (m i : ℕ) (l : List ℕ) → i + length l ≤ m → Small l → weighedFrom i l ≤ length l * (255 * m)
 unfolding weighedFrom
 weighed-limit m i [] h s = omega arith
 weighed-limit m i (x ∷ xs) h s =

@@ -24,7 +24,7 @@ empty : (l : List ℕ) → length l ≡ 0 → l ≡ []
 empty [] e = refl
 empty (x ∷ xs) e = absurd (omega arith)
 
-pub payloads-zero : (l : List ℕ) → payloadsOf 0 l ≡ []
+payloads-zero : (l : List ℕ) → payloadsOf 0 l ≡ []
 unfolding payloadsOf
 payloads-zero l = refl
 

@@ -4,11 +4,13 @@ use mathlib.Core.Path.{_≡_, refl, sym, ap, ap₂, _∙_}
 use mathlib.Core.Bool.{true, _&&_, and-eq-true-iff}
 use mathlib.Core.List.{List, [], _∷_, _++_}
 use lib.Dec.{eqb}
-use lib.ListN.{length, take, drop, getD, set, replicate, length-take, length-append, length-replicate, List·getD-append, List·getD-eq-default}
+use lib.ListN.{length, take, drop, getD, set, replicate, length-take, length-drop, length-append, length-replicate, List·getD-append, List·getD-eq-default}
 use lib.Seq.{ext-getD, getD-take, getD-drop, getD-append-add, drop-set-add}
 use native.Mathlib.Omega.{arith}
 use native.Mathlib.Decide.{decLt}
 use borrow.Author.Tests.{eqb-true, eq-eqb}
+use Rattle.laws.specs.Parts.{part}
+use Rattle.laws.proofs.PartLaws.{part-at}
 use Rattle.store.specs.Store.{filled, allZero}
 
 -- bytes
@@ -46,6 +48,14 @@ alike-take n l m a i = by (decLt i n)
 pub alike-drop : (n : ℕ) (l m : List ℕ) → Alike l m → Alike (drop n l) (drop n m)
 alike-drop n l m a i = getD-drop n l i 0 ∙ a (n + i) ∙ sym (getD-drop n m i 0)
 
+-- a part of the first n
+pub part-take : (a d n : ℕ) (l : List ℕ) → a + d ≤ n → part a d (take n l) ≡ part a d l
+part-take a d n l room =
+    ext-getD 0 (part a d (take n l)) (part a d l) (simp (length-take, length-drop) (omega arith))
+    (λ i h.
+    let inside : i < d = omega (arith, simp (length-take, length-drop) at h) in
+    part-at a d (take n l) i inside ∙ getD-take n l (a + i) 0 (omega arith) ∙ sym (part-at a d l i inside))
+
 -- behind the first n
 module _ (n : ℕ) (l : List ℕ) (i : ℕ) (h : n ≤ i) where
   from-there : n + (i - n) ≡ i
@@ -62,7 +72,7 @@ zeros-at zero i = refl
 zeros-at (suc n) zero = refl
 zeros-at (suc n) (suc i) = zeros-at n i
 
-pub zeros-alike : (l : List ℕ) (n : ℕ) → Alike (l ++ replicate n 0) l
+zeros-alike : (l : List ℕ) (n : ℕ) → Alike (l ++ replicate n 0) l
 zeros-alike [] n i = zeros-at n i
 zeros-alike (x ∷ xs) n zero = refl
 zeros-alike (x ∷ xs) n (suc i) = zeros-alike xs n i
@@ -109,13 +119,13 @@ filled-add n m l = sym (filled-is (n + m) l (filled n (take n l) ++ filled m (dr
     same i h = by i h (decLt i n)
 
 -- ZEROS
-pub zero-alike : (l : List ℕ) → allZero l ≡ true → Alike l []
+zero-alike : (l : List ℕ) → allZero l ≡ true → Alike l []
 unfolding allZero
 zero-alike [] z i = refl
 zero-alike (x ∷ xs) z zero = eqb-true _ _ (and-eq-true-iff (eqb x 0) (allZero xs) .0 z .0)
 zero-alike (x ∷ xs) z (suc i) = zero-alike xs (and-eq-true-iff (eqb x 0) (allZero xs) .0 z .1) i
 
-pub alike-zero : (l : List ℕ) → Alike l [] → allZero l ≡ true
+alike-zero : (l : List ℕ) → Alike l [] → allZero l ≡ true
 unfolding allZero
 alike-zero [] a = refl
 alike-zero (x ∷ xs) a = ap₂ _&&_ (eq-eqb x 0 (a 0)) (alike-zero xs (λ i. a (suc i)))

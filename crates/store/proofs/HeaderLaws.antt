@@ -109,7 +109,7 @@ epoch-in : (counts : Bool) (length epoch reading : ℕ) → (counts && not (eqb 
 epoch-in true length epoch reading e = sym (eqb-true epoch 0 (not-false (eqb epoch 0) e))
 epoch-in false length epoch reading e = refl
 
-neither : (a b : Bool) → (a || b) ≡ false → (a ≡ false) × (b ≡ false)
+pub neither : (a b : Bool) → (a || b) ≡ false → (a ≡ false) × (b ≡ false)
 neither true b e = absurd (true≢false e)
 neither false b e = (refl, e)
 

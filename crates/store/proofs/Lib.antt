@@ -2,6 +2,7 @@ pub mod FillLaws
 pub mod BlockLaws
 pub mod HeaderLaws
 pub mod BlocksLaws
+pub mod GateLaws
 pub mod SettingsLaws
 pub mod StoreLaws
 pub mod LoadLaws
@@ -10,3 +11,6 @@ pub mod ByteLoops
 pub mod BlockWork
 pub mod BlocksLoops
 pub mod FieldWork
+pub mod JudgeWork
+pub mod SaveWork
+pub mod LoadWork

@@ -15,33 +15,33 @@ use Rattle.refusal.proofs.VerdictLaws.{not-refused}
 use Rattle.microscope.specs.declared.MicroCm.{MicroCm}
 use Rattle.microscope.specs.Sketch.{gridBytes, allCells}
 use Rattle.microscope.specs.Refusals.{refuseSketch, refuseUnsound, noSketch}
-use Rattle.store.specs.Store.{filled, blockOf, headerOf, blocksFrom, storeOf, storeLength, gridBlocks, blockPasses, blocksPass, payloadsOf}
-use Rattle.store.specs.Refusals.{headerPayload, carried, refuseLength, loadVerdict, loadOutcome, loadCall, saveVerdict, saveCall}
+use Rattle.store.specs.Store.{filled, blockOf, headerOf, blocksFrom, storeOf, gridBlocks, blockPasses, blocksPass, payloadsOf}
+use Rattle.store.specs.Refusals.{lengthVerdict, headerPayload, carried, refuseLength, loadVerdict, loadAnswer, loadOutcome, loadCall, saveVerdict, saveOutcome, saveCall}
 use Rattle.store.proofs.FillLaws.{Small, small-take, small-drop, filled-full, behind-zero, cut-alike}
 use Rattle.store.proofs.BlockLaws.{block-same, block-back}
-use Rattle.store.proofs.BlocksLaws.{pass-suc, payloads-length, blocks-changed, blocks-back, from-alike}
+use Rattle.store.proofs.BlocksLaws.{pass-suc, blocks-changed, blocks-back, from-alike}
+use Rattle.store.proofs.BlocksLoops.{carried-length}
 use Rattle.store.proofs.HeaderLaws.{header-form, header-sketch, header-back}
-use Rattle.store.proofs.SettingsLaws.{Good, judged-good, good-judged, sound-then, sound-on, Ranged, settings-fit, blocks-few}
+use Rattle.store.proofs.GateLaws.{gate-passed, gate-open, judged, judged-gate, unsound-gate}
+use Rattle.store.proofs.SettingsLaws.{Ranged, settings-fit, blocks-few}
 use Rattle.store.proofs.StoreLaws.{store-length, store-header, store-carries, store-passes}
 use Rattle.store.proofs.LoadLaws.{sketchOf, gridOf, Loadable, accepted-loadable, loadable-accepted}
 
 -- SAVE, THEN LOAD
-pub record Saveable (k : MicroCm) (g store : List ℕ) : Type 0 where
-  pub good : Good k
-  pub room : length g ≡ gridBytes k
-  pub sound : refuseUnsound k g (allCells k) Accepted ≡ Accepted
-  pub exact : length store ≡ storeLength k
+record Saveable (k : MicroCm) (g : List ℕ) : Type 0 where
+  good : lengthVerdict k ≡ Accepted
+  room : length g ≡ gridBytes k
+  sound : refuseUnsound k g (allCells k) Accepted ≡ Accepted
 
-pub accepted-saveable : (k : MicroCm) (g store : List ℕ) → saveVerdict k g store ≡ Accepted → Saveable k g store
+accepted-saveable : (k : MicroCm) (g store : List ℕ) → saveVerdict k g store ≡ Accepted → Saveable k g
 accepted-saveable k g store e =
-    let settings = judged-good k _ e in
+    let settings = gate-passed (judged k) (judged-gate k) _ e in
     let room = not-refused 6 (not (eqb (length g) (gridBytes k))) _ (settings .1) in
-    let sound = sound-then k g (allCells k) (refuseLength k store Accepted) (room .1) in
-    let exact = not-refused 16 (not (eqb (length store) (storeLength k))) _ (sound .1) in
-    record { good = settings .0; room = eqb-true _ _ (not-false _ (room .0)); sound = sound .0; exact = eqb-true _ _ (not-false _ (exact .0)) }
+    let sound = gate-passed (refuseUnsound k g (allCells k)) (unsound-gate k g (allCells k)) (refuseLength k store Accepted) (room .1) in
+    record { good = settings .0; room = eqb-true _ _ (not-false _ (room .0)); sound = sound .0 }
 
 module _ (k : MicroCm) (g g' store : List ℕ) (range : Ranged k) (small : Small g) (saved : saveVerdict k g store ≡ Accepted) (same : length g' ≡ length g) where
-  able : Saveable k g store
+  able : Saveable k g
   able = accepted-saveable k g store saved
 
   sketch-back : sketchOf (storeOf k g) ≡ k
@@ -62,13 +62,15 @@ module _ (k : MicroCm) (g g' store : List ℕ) (range : Ranged k) (small : Small
     passes = store-passes k g small (blocks-few k (able .good));
     form = rw (store-header k g) (header-form k (settings-fit k (able .good) range));
     good = rw sketch-back (able .good);
-    exact = rw sketch-back (store-length k g);
-    fill = rw (sketch-back, ← able .room, store-carries k g) (behind-zero (504 * gridBlocks k) g);
-    room = rw sketch-back (same ∙ able .room);
-    sound = rw (sketch-back, grid-taken) (able .sound);
+    kept = record {
+      exact = rw sketch-back (store-length k g);
+      fill = rw (sketch-back, ← able .room, store-carries k g) (behind-zero (504 * gridBlocks k) g);
+      room = rw sketch-back (same ∙ able .room);
+      sound = rw (sketch-back, grid-taken) (able .sound);
+    };
   }
 
-  pub save-load : loadCall g' (saveCall k g store .store) ≡ loadOutcome (record { verdict = Accepted; sketch = k }) g
+  pub save-load : loadCall g' (saveCall k g store .store) ≡ loadOutcome (loadAnswer Accepted k) g
   unfolding loadCall saveCall
   save-load = rw (saved, loadable-accepted g' (storeOf k g) loadable, sketch-back, grid-taken)
 
@@ -78,10 +80,10 @@ module _ (g store : List ℕ) (loaded : loadVerdict g store ≡ Accepted) where
   able-to = accepted-loadable g store loaded
 
   count-is : length store / 512 ≡ suc (gridBlocks (sketchOf store))
-  count-is = rw (able-to .exact) (omega arith)
+  count-is = rw (able-to .kept .exact) (omega arith)
 
   rest-long : length (drop 512 store) ≡ 512 * gridBlocks (sketchOf store)
-  rest-long = length-drop 512 store ∙ rw (able-to .exact) (omega arith)
+  rest-long = length-drop 512 store ∙ rw (able-to .kept .exact) (omega arith)
 
   carried-is : carried store ≡ payloadsOf (gridBlocks (sketchOf store)) (drop 512 store)
   carried-is =
@@ -90,18 +92,18 @@ module _ (g store : List ℕ) (loaded : loadVerdict g store ≡ Accepted) where
 
   grid-long : length (gridOf store) ≡ gridBytes (sketchOf store)
   grid-long =
-      let n : length (carried store) ≡ 504 * gridBlocks (sketchOf store) = rw carried-is (payloads-length (gridBlocks (sketchOf store)) (drop 512 store) (omega (arith, rest-long))) in
-      length-take-le (gridBytes (sketchOf store)) (carried store) (omega arith)
+      length-take-le (gridBytes (sketchOf store)) (carried store) (omega (arith, carried-length store, count-is))
 
-  pub load-call : loadCall g store ≡ loadOutcome (record { verdict = Accepted; sketch = sketchOf store }) (gridOf store)
+  pub load-call : loadCall g store ≡ loadOutcome (loadAnswer Accepted (sketchOf store)) (gridOf store)
   unfolding loadCall
   load-call = rw loaded
 
   -- no call refuses what was loaded, by 1 to 6 or 14
   pub load-usable : (rest : Verdict) → refuseSketch (sketchOf store) (gridOf store) (refuseUnsound (sketchOf store) (gridOf store) (allCells (sketchOf store)) rest) ≡ rest
   load-usable rest =
-      good-judged (sketchOf store) _ (able-to .good)
-      ∙ rw (eq-eqb _ _ grid-long) (sound-on (sketchOf store) (gridOf store) (allCells (sketchOf store)) rest (able-to .sound))
+      gate-open (judged (sketchOf store)) (judged-gate (sketchOf store)) _ (able-to .good)
+      ∙ rw (eq-eqb _ _ grid-long)
+      (gate-open (refuseUnsound (sketchOf store) (gridOf store) (allCells (sketchOf store))) (unsound-gate (sketchOf store) (gridOf store) (allCells (sketchOf store))) rest (able-to .kept .sound))
 
   -- LOAD, THEN SAVE
   module _ (small : Small store) where
@@ -111,7 +113,7 @@ module _ (g store : List ℕ) (loaded : loadVerdict g store ≡ Accepted) where
         and-eq-true-iff (blockPasses 0 (take 512 store)) (blocksPass 1 (gridBlocks (sketchOf store)) (drop 512 store)) .0 (rw pass-suc at e)
 
     first-long : length (take 512 store) ≡ 512
-    first-long = length-take-le 512 store (omega (arith, able-to .exact))
+    first-long = length-take-le 512 store (omega (arith, able-to .kept .exact))
 
     payload-long : length (headerPayload store) ≡ 504
     payload-long = part-length 4 504 (take 512 store) (omega (arith, first-long))
@@ -126,24 +128,24 @@ module _ (g store : List ℕ) (loaded : loadVerdict g store ≡ Accepted) where
 
     grid-same : blocksFrom 1 (gridBlocks (sketchOf store)) (gridOf store) ≡ drop 512 store
     grid-same =
-        from-alike 1 (gridBlocks (sketchOf store)) (gridOf store) (carried store) (cut-alike (gridBytes (sketchOf store)) (carried store) (able-to .fill))
+        from-alike 1 (gridBlocks (sketchOf store)) (gridOf store) (carried store) (cut-alike (gridBytes (sketchOf store)) (carried store) (able-to .kept .fill))
         ∙ rw carried-is (blocks-back 1 (gridBlocks (sketchOf store)) (drop 512 store) rest-long (all-pass .1) (small-drop 512 store small))
 
     store-same : storeOf (sketchOf store) (gridOf store) ≡ store
     unfolding storeOf
     store-same = ap₂ _++_ header-same grid-same ∙ take-append-drop 512 store
 
-    pub load-save : (buffer : List ℕ) → length buffer ≡ length store → saveCall (sketchOf store) (gridOf store) buffer ≡ record { verdict = Accepted; store = store }
+    pub load-save : (buffer : List ℕ) → length buffer ≡ length store → saveCall (sketchOf store) (gridOf store) buffer ≡ saveOutcome Accepted store
     unfolding saveCall
     load-save buffer e =
         let v : saveVerdict (sketchOf store) (gridOf store) buffer ≡ Accepted =
-        load-usable (refuseLength (sketchOf store) buffer Accepted) ∙ rw (eq-eqb _ _ (e ∙ able-to .exact))
+        load-usable (refuseLength (sketchOf store) buffer Accepted) ∙ rw (eq-eqb _ _ (e ∙ able-to .kept .exact))
         in
         rw (v, store-same)
 
   -- ANY ONE CHANGED BYTE is refused by 17
-  pub load-changed : (g' : List ℕ) (k v : ℕ) → k < length store → (v ≡ getD store k 0 → ⊥) → loadCall g' (set store k v) ≡ loadOutcome (record { verdict = Refused 17; sketch = noSketch }) g'
+  pub load-changed : (g' : List ℕ) (k v : ℕ) → k < length store → (v ≡ getD store k 0 → ⊥) → loadCall g' (set store k v) ≡ loadOutcome (loadAnswer (Refused 17) noSketch) g'
   unfolding loadCall
   load-changed g' k v h ne =
-      let whole : length store ≡ 512 * (length store / 512) = omega (arith, able-to .exact) in
+      let whole : length store ≡ 512 * (length store / 512) = omega (arith, able-to .kept .exact) in
       rw (length-set store k v, able-to .whole, blocks-changed 0 (length store / 512) store k v whole (able-to .passes) h ne)

@@ -36,8 +36,11 @@ pub record SaveOutcome : Type 0 where
   pub verdict : Verdict
   pub store : List ℕ
 
+abbrev pub saveOutcome : Verdict → List ℕ → SaveOutcome
+saveOutcome v store = record { verdict = v; store = store }
+
 unfoldable pub saveCall : MicroCm → List ℕ → List ℕ → SaveOutcome
-saveCall k g store = record { verdict = saveVerdict k g store; store = whenAccepted (saveVerdict k g store) (storeOf k g) store }
+saveCall k g store = saveOutcome (saveVerdict k g store) (whenAccepted (saveVerdict k g store) (storeOf k g) store)
 
 -- LOAD
 -- 18 over block 0: the form, the kind of clock, a byte that must be 0, the epoch of a count clock
@@ -54,6 +57,11 @@ headerVerdict p =
 unfoldable pub headerIn : List ℕ → Header
 headerIn p = whenAccepted (headerVerdict p) (Sketch (sketchIn p)) (Refused (numberOf (headerVerdict p)))
 
+-- document 01's number of a header's answer; 0 is no number of the table
+abbrev pub headerNumber : Header → ℕ
+headerNumber (Sketch k) = 0
+headerNumber (Refused n) = n
+
 abbrev pub headerPayload : List ℕ → List ℕ
 headerPayload store = payloadOf (take blockBytes store)
 
@@ -61,19 +69,31 @@ headerPayload store = payloadOf (take blockBytes store)
 abbrev pub carried : List ℕ → List ℕ
 carried store = payloadsOf (length store / blockBytes - 1) (drop blockBytes store)
 
+-- the grid that is stored for a sketch
+abbrev pub gridIn : MicroCm → List ℕ → List ℕ
+gridIn k store = take (gridBytes k) (carried store)
+
 -- 16 for the exact length, 18 for the fill, 6 for the grid lent, 14 over the stored cells
 abbrev pub gridVerdict : MicroCm → List ℕ → List ℕ → Verdict
 gridVerdict k g store =
     refuseLength k store
     (refuse 18 (not (allZero (drop (gridBytes k) (carried store))))
-    (refuseGrid k g (refuseUnsound k (take (gridBytes k) (carried store)) (allCells k) verdict.Accepted)))
+    (refuseGrid k g (refuseUnsound k (gridIn k store) (allCells k) verdict.Accepted)))
 
--- 16 for an empty store or no whole number of blocks, 17 over every block, then the header's answer
+-- 16 for an empty store or no whole number of blocks, 17 over every block
+abbrev pub refuseBlocks : List ℕ → Verdict → Verdict
+refuseBlocks store rest =
+    refuse 16 (eqb (length store) 0 || not (eqb (length store % blockBytes) 0)) (refuse 17 (not (blocksPass 0 (length store / blockBytes) store)) rest)
+
+-- the blocks, then the header's answer, then what it leaves
 abbrev pub loadVerdict : List ℕ → List ℕ → Verdict
 loadVerdict g store =
-    refuse 16 (eqb (length store) 0 || not (eqb (length store % blockBytes) 0))
-    (refuse 17 (not (blocksPass 0 (length store / blockBytes) store))
-    (whenAccepted (headerVerdict (headerPayload store)) (gridVerdict (sketchIn (headerPayload store)) g store) (headerVerdict (headerPayload store))))
+    refuseBlocks store
+    (whenAccepted (headerVerdict (headerPayload store)) (gridVerdict (sketchIn (headerPayload store)) g store) (headerVerdict (headerPayload store)))
+
+-- the sketch, if the load is accepted
+abbrev pub loadAnswer : Verdict → MicroCm → LoadAnswer
+loadAnswer v k = record { verdict = v; sketch = k }
 
 pub record LoadOutcome : Type 0 where
   pub answer : LoadAnswer
@@ -86,4 +106,4 @@ unfoldable pub loadCall : List ℕ → List ℕ → LoadOutcome
 loadCall g store =
     let v = loadVerdict g store in
     let k = sketchIn (headerPayload store) in
-    loadOutcome (record { verdict = v; sketch = whenAccepted v k noSketch }) (whenAccepted v (take (gridBytes k) (carried store)) g)
+    loadOutcome (loadAnswer v (whenAccepted v k noSketch)) (whenAccepted v (gridIn k store) g)

@@ -1,5 +1,7 @@
 // The header, payload of block 0: each field where document 01 puts it, the rest 0.
+use crate::Header;
 use crate::bytes;
+use crate::judge;
 use cell::MicroParams;
 use clock::SubWindowClock;
 use microscope::MicroCm;
@@ -7,40 +9,16 @@ use rounding::Rounding;
 ghost use mathlib.Core.Path.{_≡_};
 ghost use Prim.Native.Nat.{_+_, _^_, _<_, _≤_};
 ghost use lib.ListN.{length, take, drop};
-ghost use Rattle.clock.specs.Clock.{lengthOf};
 ghost use Rattle.store.specs.Store.{kindOf, epochOf, readingOf, headerOf, fieldOf, clockIn, sketchIn};
-ghost use Rattle.store.specs.Refusals.{wrongForm};
+ghost use Rattle.store.specs.Refusals.{wrongForm, headerIn};
 ghost use Rattle.store.specs.Workers.{Put};
 
 fn kind(clock: SubWindowClock) -> u64
     ensures { λ r. ⌜ r ≡ kindOf clock ⌝ }
 {
     match clock {
-        SubWindowClock::CountBased {
-            items_per_sub_window: _,
-            seen: _,
-        } => 0,
-        SubWindowClock::TimeBased {
-            sub_window_len: _,
-            epoch: _,
-            now: _,
-        } => 1,
-    }
-}
-
-fn sub_window_length(clock: SubWindowClock) -> u64
-    ensures { λ r. ⌜ r ≡ lengthOf clock ⌝ }
-{
-    match clock {
-        SubWindowClock::CountBased {
-            items_per_sub_window,
-            seen: _,
-        } => items_per_sub_window,
-        SubWindowClock::TimeBased {
-            sub_window_len,
-            epoch: _,
-            now: _,
-        } => sub_window_len,
+        SubWindowClock::CountBased { .. } => 0,
+        SubWindowClock::TimeBased { .. } => 1,
     }
 }
 
@@ -48,15 +26,8 @@ fn epoch(clock: SubWindowClock) -> u64
     ensures { λ r. ⌜ r ≡ epochOf clock ⌝ }
 {
     match clock {
-        SubWindowClock::CountBased {
-            items_per_sub_window: _,
-            seen: _,
-        } => 0,
-        SubWindowClock::TimeBased {
-            sub_window_len: _,
-            epoch,
-            now: _,
-        } => epoch,
+        SubWindowClock::CountBased { .. } => 0,
+        SubWindowClock::TimeBased { epoch, .. } => epoch,
     }
 }
 
@@ -65,15 +36,8 @@ fn reading(clock: SubWindowClock) -> u64
     ensures { λ r. ⌜ r ≡ readingOf clock ⌝ }
 {
     match clock {
-        SubWindowClock::CountBased {
-            items_per_sub_window: _,
-            seen,
-        } => seen,
-        SubWindowClock::TimeBased {
-            sub_window_len: _,
-            epoch: _,
-            now,
-        } => now,
+        SubWindowClock::CountBased { seen, .. } => seen,
+        SubWindowClock::TimeBased { now, .. } => now,
     }
 }
 
@@ -117,7 +81,7 @@ fn write_state(out: &mut [u8], sketch: MicroCm)
 {
     let clock = sketch.clock;
     let rounding = sketch.rounding;
-    put_field(out, 0, 8, sub_window_length(clock));
+    put_field(out, 0, 8, clock::worker::length(clock));
     put_field(out, 8, 8, epoch(clock));
     put_field(out, 16, 8, reading(clock));
     put_field(out, 24, 8, rounding.state);
@@ -189,4 +153,20 @@ pub fn sketch_in(payload: &[u8]) -> MicroCm
         clock,
         rounding: Rounding { state },
     }
+}
+
+// The header's answer: 18, then 1 to 5.
+pub fn header_in(payload: &[u8]) -> Header
+    requires { ⌜ length (now payload) ≡ 504 ⌝ }
+    ensures { λ r. ⌜ r ≡ headerIn (now (payload .entry)) ⌝ }
+{
+    if wrong_form(payload) {
+        return Header::Refused(18);
+    }
+    let sketch = sketch_in(payload);
+    let verdict = judge::settings(sketch);
+    if !verdict.accepted() {
+        return Header::Refused(verdict.number());
+    }
+    Header::Sketch(sketch)
 }

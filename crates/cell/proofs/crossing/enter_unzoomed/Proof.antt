@@ -1,5 +1,5 @@
 -- `enter_unzoomed`: a far jump, or the closing and the clearing. Assumes nothing.
-use Rattle.cell.proofs.CrossingCases.{inside-far, crossed-known, slot-in, inside-near}
+use Rattle.cell.proofs.CrossingCases.{inside-far, still-few, crossed-known, slot-in, inside-near}
 use borrow.Author.Needs.{needs}
 use Rattle.cell.proofs.crossing.enter_unzoomed.Statement.{statement}
 use Rattle.cell.proofs.crossing.enter_unzoomed.Tie as tie
@@ -14,7 +14,7 @@ same-length : tie.Need-same-length
 same-length c = search needs
 
 returns : tie.Need-returns
-returns c = (search (inside-far, needs), search needs)
+returns c = (search (inside-far, needs), search (still-few, needs))
 
 sub-ended : tie.Need-sub-ended
 sub-ended c = search (crossed-known, needs)

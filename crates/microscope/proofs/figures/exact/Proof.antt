@@ -1,16 +1,13 @@
+-- `exact`: a whole number up to 2 ^ 53 is its f64. Assumes nothing.
 use Rattle.laws.proofs.FigureLaws.{castable}
 use native.Mathlib.Omega.{arith}
 use borrow.Author.Needs.{needs}
 use Rattle.microscope.proofs.figures.exact.Statement.{statement}
 use Rattle.microscope.proofs.figures.exact.Tie as tie
-use Rattle.microscope.proofs.figures.exact.Reads as reads
-use Rattle.microscope.proofs.figures.exact.Lts as lts
 
--- src/figures.rt:102:16
 int-to-float-t2 : tie.Need-int-to-float-t2
 int-to-float-t2 c = castable _ (search needs)
 
--- src/figures.rt:96:1
 returns : tie.Need-returns
 returns c = search needs
 

@@ -1,48 +1,34 @@
+-- `row_items`: the part that is lent is the key's cell in that row. Assumes nothing.
 use Rattle.microscope.proofs.KeyCellLaws.{lent-room, lent-unit, unit-low, lent-shutter, items-are}
 use native.Mathlib.Omega.{arith}
 use borrow.Author.Needs.{needs}
 use Rattle.microscope.proofs.figures.row_items.Statement.{statement}
 use Rattle.microscope.proofs.figures.row_items.Tie as tie
-use Rattle.microscope.proofs.figures.row_items.Reads as reads
-use Rattle.microscope.proofs.figures.row_items.Lts as lts
-use Rattle.cell.proofs.layout.depth.Reads as depth-reads
-use Rattle.microscope.proofs.figures.items_in.Reads as items-in-reads
-use Rattle.microscope.proofs.grid.key_cell.Reads as key-cell-reads
-use Rattle.microscope.proofs.grid.start_of.Reads as start-of-reads
 
--- src/figures.rt:55:52
 key-cell-requires : tie.Need-key-cell-requires
 key-cell-requires c κs = search needs
 
--- src/figures.rt:55:9
 start-of-requires : tie.Need-start-of-requires
 start-of-requires c κs = search needs
 
--- src/figures.rt:56:23
 depth-requires : tie.Need-depth-requires
 depth-requires c κs = search needs
 
--- src/figures.rt:56:15
 add-end : tie.Need-add-end
 add-end c = search needs
 
--- src/figures.rt:57:14
 sub-items-in : tie.Need-sub-items-in
 sub-items-in c = search needs
 
--- src/figures.rt:57:14
 part-items-in-start : tie.Need-part-items-in-start
 part-items-in-start c = search needs
 
--- src/figures.rt:57:14
 part-items-in-end : tie.Need-part-items-in-end
 part-items-in-end c = search needs
 
--- src/figures.rt:57:5
 items-in-requires : tie.Need-items-in-requires
 items-in-requires c κs = ((search needs, search (lent-room, needs)), (search (lent-unit, needs), search (unit-low, needs), search (lent-shutter, needs)))
 
--- src/figures.rt:48:1
 returns : tie.Need-returns
 returns c = (search (items-are, needs), search needs)
 

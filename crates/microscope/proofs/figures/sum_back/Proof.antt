@@ -1,15 +1,10 @@
+-- `sum_back`: the sum over the sub-windows so far back, none of which passes what a cell can say. Assumes nothing.
 use Rattle.microscope.proofs.FigureLoops.{Summing, summing-begin, summing-exact, summing-room, summing-on, summing-end, summing-few}
 use Prim.Native.Nat.{_-_}
 use borrow.Author.Needs.{needs}
 use native.Mathlib.Omega.{arith}
 use Rattle.microscope.proofs.figures.sum_back.Statement.{statement}
 use Rattle.microscope.proofs.figures.sum_back.Tie as tie
-use Rattle.microscope.proofs.figures.sum_back.Reads as reads
-use Rattle.microscope.proofs.figures.sum_back.Lts as lts
-use Rattle.microscope.proofs.figures.exact.Reads as exact-reads
-use Rattle.microscope.proofs.figures.least_in.Reads as least-in-reads
-use Rattle.microscope.proofs.figures.plus.Reads as plus-reads
-use Rattle.microscope.proofs.figures.smaller.Reads as smaller-reads
 
 abbrev Inv-loop : tie.InvT-loop
 Inv-loop sketch grid key units n most last sum₀ back₀ sum back = Summing sketch grid key last back sum
@@ -17,47 +12,36 @@ Inv-loop sketch grid key units n most last sum₀ back₀ sum back = Summing ske
 abbrev μ-loop : tie.MeasureT-loop
 μ-loop sketch grid key units n most last sum₀ back₀ sum back = last - back
 
--- src/figures.rt:124:9
 smaller-requires : tie.Need-smaller-requires Inv-loop μ-loop
 smaller-requires c κs = search needs
 
--- src/figures.rt:125:25
 least-in-requires : tie.Need-least-in-requires Inv-loop μ-loop
 least-in-requires c κs = search needs
 
--- src/figures.rt:125:9
 exact-requires : tie.Need-exact-requires Inv-loop μ-loop
 exact-requires c κs = search needs
 
--- src/figures.rt:127:5
 loop-holds : tie.Need-loop-holds Inv-loop μ-loop
 loop-holds c = search (summing-begin, needs)
 
--- src/figures.rt:128:9
 add-back : tie.Need-add-back Inv-loop μ-loop
 add-back c = search needs
 
--- src/figures.rt:129:63
 sub-least-in : tie.Need-sub-least-in Inv-loop μ-loop
 sub-least-in c = search needs
 
--- src/figures.rt:129:25
 least-in-requires-2 : tie.Need-least-in-requires-2 Inv-loop μ-loop
 least-in-requires-2 c κs = search needs
 
--- src/figures.rt:129:9
 plus-requires : tie.Need-plus-requires Inv-loop μ-loop
 plus-requires c κs = (search (summing-exact, needs), search (summing-room, needs))
 
--- src/figures.rt:127:5
 loop-less : tie.Need-loop-less Inv-loop μ-loop
 loop-less c = search needs
 
--- src/figures.rt:127:5
 loop-again : tie.Need-loop-again Inv-loop μ-loop
 loop-again c = summing-on _ _ _ _ _ _ (c .before .before .before .loop .inv) (search needs) (search needs) _ _ _ (search needs) (c .before .least-in2 .ensures .0) (search needs) (c .plus .ensures)
 
--- src/figures.rt:118:1
 returns : tie.Need-returns Inv-loop μ-loop
 returns c = (search (summing-end, needs), search (summing-few, needs))
 

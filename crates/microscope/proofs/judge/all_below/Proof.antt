@@ -1,3 +1,4 @@
+-- `all_below`: the columns before this row are below cols. Assumes nothing.
 use Rattle.microscope.proofs.SettingsCases.{Rows, rows-begin, rows-found, rows-on, rows-end}
 use Prim.Native.Nat.{_-_}
 use lib.ListN.{length}
@@ -5,8 +6,6 @@ use borrow.Author.Needs.{needs}
 use native.Mathlib.Omega.{arith}
 use Rattle.microscope.proofs.judge.all_below.Statement.{statement}
 use Rattle.microscope.proofs.judge.all_below.Tie as tie
-use Rattle.microscope.proofs.judge.all_below.Reads as reads
-use Rattle.microscope.proofs.judge.all_below.Lts as lts
 
 abbrev Inv-loop : tie.InvT-loop
 Inv-loop key cols row₀ row = Rows cols key row
@@ -14,39 +13,30 @@ Inv-loop key cols row₀ row = Rows cols key row
 abbrev μ-loop : tie.MeasureT-loop
 μ-loop key cols row₀ row = length key - row
 
--- src/judge.rt:44:5
 loop-holds : tie.Need-loop-holds Inv-loop μ-loop
 loop-holds c = search (rows-begin, needs)
 
--- src/judge.rt:45:12
 mul-if1 : tie.Need-mul-if1 Inv-loop μ-loop
 mul-if1 c = search needs
 
--- src/judge.rt:45:12
 shared-slice-read-if1 : tie.Need-shared-slice-read-if1 Inv-loop μ-loop
 shared-slice-read-if1 c = search needs
 
--- src/judge.rt:45:12
 cast-if1 : tie.Need-cast-if1 Inv-loop μ-loop
 cast-if1 c = omega (arith, c .shared-slice-known .given (c .before .before .loop .row))
 
--- src/judge.rt:46:13
 returns : tie.Need-returns Inv-loop μ-loop
 returns c = search (rows-found, needs)
 
--- src/judge.rt:48:9
 add-row : tie.Need-add-row Inv-loop μ-loop
 add-row c = search needs
 
--- src/judge.rt:44:5
 loop-less : tie.Need-loop-less Inv-loop μ-loop
 loop-less c = search needs
 
--- src/judge.rt:44:5
 loop-again : tie.Need-loop-again Inv-loop μ-loop
 loop-again c = search (rows-on, needs)
 
--- src/judge.rt:40:1
 returns-2 : tie.Need-returns-2 Inv-loop μ-loop
 returns-2 c = search (rows-end, needs)
 

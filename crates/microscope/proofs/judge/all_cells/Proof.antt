@@ -1,3 +1,4 @@
+-- `all_cells`: the cells before this one are sound, so what is left decides. Assumes nothing.
 use Rattle.microscope.proofs.JudgeLoops.{AllLeft, all-begin, all-found, all-on, all-end}
 use Prim.Native.Nat.{_-_}
 use Rattle.microscope.proofs.AddressLaws.{cells-fit, index-next}
@@ -5,9 +6,6 @@ use borrow.Author.Needs.{needs}
 use native.Mathlib.Omega.{arith}
 use Rattle.microscope.proofs.judge.all_cells.Statement.{statement}
 use Rattle.microscope.proofs.judge.all_cells.Tie as tie
-use Rattle.microscope.proofs.judge.all_cells.Reads as reads
-use Rattle.microscope.proofs.judge.all_cells.Lts as lts
-use Rattle.microscope.proofs.judge.cell_sound.Reads as cell-sound-reads
 
 abbrev Inv-loop : tie.InvT-loop
 Inv-loop sketch grid count index₀ index = AllLeft sketch grid count index
@@ -15,35 +13,27 @@ Inv-loop sketch grid count index₀ index = AllLeft sketch grid count index
 abbrev μ-loop : tie.MeasureT-loop
 μ-loop sketch grid count index₀ index = count - index
 
--- src/judge.rt:145:17
 mul-count : tie.Need-mul-count Inv-loop μ-loop
 mul-count c = record { fits = search (cells-fit, needs) }
 
--- src/judge.rt:147:5
 loop-holds : tie.Need-loop-holds Inv-loop μ-loop
 loop-holds c = search (all-begin, needs)
 
--- src/judge.rt:148:13
 cell-sound-requires : tie.Need-cell-sound-requires Inv-loop μ-loop
 cell-sound-requires c κs = search needs
 
--- src/judge.rt:149:13
 returns : tie.Need-returns Inv-loop μ-loop
 returns c = search (all-found, needs)
 
--- src/judge.rt:151:9
 add-index : tie.Need-add-index Inv-loop μ-loop
 add-index c = record { fits = search (index-next, needs) }
 
--- src/judge.rt:147:5
 loop-less : tie.Need-loop-less Inv-loop μ-loop
 loop-less c = search needs
 
--- src/judge.rt:147:5
 loop-again : tie.Need-loop-again Inv-loop μ-loop
 loop-again c = search (all-on, needs)
 
--- src/judge.rt:141:1
 returns-2 : tie.Need-returns-2 Inv-loop μ-loop
 returns-2 c = search (all-end, needs)
 

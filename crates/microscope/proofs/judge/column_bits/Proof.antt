@@ -1,10 +1,9 @@
+-- `column_bits`: no power of two above the present one is cols. Assumes nothing.
 use Rattle.microscope.proofs.SettingsCases.{Descending, descending-begin, descending-found, descending-on, descending-end}
 use borrow.Author.Needs.{needs}
 use native.Mathlib.Omega.{arith}
 use Rattle.microscope.proofs.judge.column_bits.Statement.{statement}
 use Rattle.microscope.proofs.judge.column_bits.Tie as tie
-use Rattle.microscope.proofs.judge.column_bits.Reads as reads
-use Rattle.microscope.proofs.judge.column_bits.Lts as lts
 
 abbrev Inv-loop : tie.InvT-loop
 Inv-loop cols bits₀ power₀ bits power = Descending cols bits power
@@ -12,27 +11,21 @@ Inv-loop cols bits₀ power₀ bits power = Descending cols bits power
 abbrev μ-loop : tie.MeasureT-loop
 μ-loop cols bits₀ power₀ bits power = bits
 
--- src/judge.rt:13:5
 loop-holds : tie.Need-loop-holds Inv-loop μ-loop
 loop-holds c = search (descending-begin, needs)
 
--- src/judge.rt:15:13
 returns : tie.Need-returns Inv-loop μ-loop
 returns c = (search (descending-found, needs), search needs)
 
--- src/judge.rt:18:9
 sub-bits : tie.Need-sub-bits Inv-loop μ-loop
 sub-bits c = search needs
 
--- src/judge.rt:13:5
 loop-less : tie.Need-loop-less Inv-loop μ-loop
 loop-less c = search needs
 
--- src/judge.rt:13:5
 loop-again : tie.Need-loop-again Inv-loop μ-loop
 loop-again c = search (descending-on, needs)
 
--- src/judge.rt:8:1
 returns-2 : tie.Need-returns-2 Inv-loop μ-loop
 returns-2 c = (search (descending-end, needs), search needs)
 

@@ -1,33 +1,25 @@
+-- `grid_fits`: each way out is a part of the test, and rows is tested before it is multiplied. Assumes nothing.
 use Rattle.microscope.proofs.SettingsCases.{no-rows, no-bits, many-rows, bits-decide, few-products}
 use native.Mathlib.Omega.{arith}
 use borrow.Author.Needs.{needs}
 use Rattle.microscope.proofs.judge.grid_fits.Statement.{statement}
 use Rattle.microscope.proofs.judge.grid_fits.Tie as tie
-use Rattle.microscope.proofs.judge.grid_fits.Reads as reads
-use Rattle.microscope.proofs.judge.grid_fits.Lts as lts
-use Rattle.microscope.proofs.judge.column_bits.Reads as column-bits-reads
 
--- src/judge.rt:26:9
 column-bits-requires : tie.Need-column-bits-requires
 column-bits-requires c κs = search needs
 
--- src/judge.rt:28:9
 returns : tie.Need-returns
 returns c = search (no-rows, needs)
 
--- src/judge.rt:31:9
 returns-2 : tie.Need-returns-2
 returns-2 c = search (no-bits, needs)
 
--- src/judge.rt:35:9
 returns-3 : tie.Need-returns-3
 returns-3 c = search (many-rows, needs)
 
--- src/judge.rt:37:5
 mul-result : tie.Need-mul-result
 mul-result c = record { fits = search (few-products, needs) }
 
--- src/judge.rt:23:1
 returns-4 : tie.Need-returns-4
 returns-4 c = search (bits-decide, needs)
 

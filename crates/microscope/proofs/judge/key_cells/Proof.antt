@@ -1,3 +1,4 @@
+-- `key_cells`: the cells of the rows before this one are sound, so what is left decides. Assumes nothing.
 use Rattle.microscope.proofs.JudgeLoops.{KeyLeft, key-begin, key-found, key-on, key-end}
 use Prim.Native.Nat.{_-_}
 use Rattle.microscope.proofs.AddressLaws.{key-row}
@@ -6,10 +7,6 @@ use borrow.Author.Needs.{needs}
 use native.Mathlib.Omega.{arith}
 use Rattle.microscope.proofs.judge.key_cells.Statement.{statement}
 use Rattle.microscope.proofs.judge.key_cells.Tie as tie
-use Rattle.microscope.proofs.judge.key_cells.Reads as reads
-use Rattle.microscope.proofs.judge.key_cells.Lts as lts
-use Rattle.microscope.proofs.grid.key_cell.Reads as key-cell-reads
-use Rattle.microscope.proofs.judge.cell_sound.Reads as cell-sound-reads
 
 abbrev Inv-loop : tie.InvT-loop
 Inv-loop sketch key grid row₀ row = KeyLeft sketch grid key row
@@ -17,35 +14,27 @@ Inv-loop sketch key grid row₀ row = KeyLeft sketch grid key row
 abbrev μ-loop : tie.MeasureT-loop
 μ-loop sketch key grid row₀ row = length key - row
 
--- src/judge.rt:130:5
 loop-holds : tie.Need-loop-holds Inv-loop μ-loop
 loop-holds c = search (key-begin, needs)
 
--- src/judge.rt:131:13
 key-cell-requires : tie.Need-key-cell-requires Inv-loop μ-loop
 key-cell-requires c κs = (search (key-row, needs), search needs, search needs, search needs)
 
--- src/judge.rt:132:13
 cell-sound-requires : tie.Need-cell-sound-requires Inv-loop μ-loop
 cell-sound-requires c κs = search needs
 
--- src/judge.rt:133:13
 returns : tie.Need-returns Inv-loop μ-loop
 returns c = search (key-found, needs)
 
--- src/judge.rt:135:9
 add-row : tie.Need-add-row Inv-loop μ-loop
 add-row c = search needs
 
--- src/judge.rt:130:5
 loop-less : tie.Need-loop-less Inv-loop μ-loop
 loop-less c = search needs
 
--- src/judge.rt:130:5
 loop-again : tie.Need-loop-again Inv-loop μ-loop
 loop-again c = search (key-on, needs)
 
--- src/judge.rt:125:1
 returns-2 : tie.Need-returns-2 Inv-loop μ-loop
 returns-2 c = search (key-end, needs)
 

@@ -1,21 +1,16 @@
+-- `key_fits`: one column a row, and each below cols. Assumes nothing.
 use Rattle.microscope.proofs.SettingsCases.{key-length, key-other}
 use native.Mathlib.Omega.{arith}
 use borrow.Author.Needs.{needs}
 use Rattle.microscope.proofs.judge.key_fits.Statement.{statement}
 use Rattle.microscope.proofs.judge.key_fits.Tie as tie
-use Rattle.microscope.proofs.judge.key_fits.Reads as reads
-use Rattle.microscope.proofs.judge.key_fits.Lts as lts
-use Rattle.microscope.proofs.judge.all_below.Reads as all-below-reads
 
--- src/judge.rt:57:9
 all-below-requires : tie.Need-all-below-requires
 all-below-requires c κs = search needs
 
--- src/judge.rt:57:9
 returns : tie.Need-returns
 returns c = search (key-length, needs)
 
--- src/judge.rt:53:1
 returns-2 : tie.Need-returns-2
 returns-2 c = search (key-other, needs)
 

@@ -4,8 +4,8 @@ use borrow.Author.Needs.{needs}
 use Rattle.store.proofs.fields.write_state.Statement.{statement}
 use Rattle.store.proofs.fields.write_state.Tie as tie
 
-sub-window-length-requires : tie.Need-sub-window-length-requires
-sub-window-length-requires c κs = search needs
+length-requires : tie.Need-length-requires
+length-requires c κs = search needs
 
 put-field-requires : tie.Need-put-field-requires
 put-field-requires c κs = search needs
@@ -34,13 +34,13 @@ returns c =
     let three = four .before .before .before .before in
     let two = three .before .before .before .before .before in
     let one = two .before .before .before .before .before in
-    state-written _ _ _ _ _ _ _ _ _ (one .before .sub-window-length .ensures) (two .before .epoch .ensures) (three .before .reading .ensures) (search needs) (four .put-field4 .ensures) (three .put-field3 .ensures) (two .put-field2 .ensures) (one .put-field .ensures)
+    state-written _ _ _ _ _ _ _ _ _ (one .before .length .ensures) (two .before .epoch .ensures) (three .before .reading .ensures) (search needs) (four .put-field4 .ensures) (three .put-field3 .ensures) (two .put-field2 .ensures) (one .put-field .ensures)
 
 pub write-state-spec : {M : Type 1} → statement M
 write-state-spec =
     tie.close
     (tie.spec
-    sub-window-length-requires
+    length-requires
     put-field-requires
     epoch-requires
     put-field-requires-2
