@@ -2,7 +2,7 @@
 -- Item 10 is microscope's; crate bench_sheet joins the ten in one statement.
 use Prim.Native.Nat.{ℕ, _-_, _%_, _^_}
 use mathlib.Core.Path.{_≡_}
-use mathlib.Core.List.{List, [], _∷_}
+use mathlib.Core.List.{List, _∷_}
 use Rattle.laws.specs.Bytes.{bytesOf}
 use Rattle.laws.specs.Steps.{Step, still}
 use Rattle.rounding.specs.Draws.{nextState, yielded}

@@ -1,13 +1,13 @@
 -- Document 01, "Turning a call back", for the calls on one cell. Each call's answer, whole, and the bytes that it leaves.
-use Prim.Native.Nat.{ℕ, _+_, _*_}
-use mathlib.Core.Bool.{Bool, not, cond, _&&_}
+use Prim.Native.Nat.{ℕ, _*_}
+use mathlib.Core.Bool.{not, cond, _&&_}
 use mathlib.Core.List.{List}
 use lib.Dec.{ltb, eqb}
 use lib.ListN.{length}
 use Rattle.laws.specs.Steps.{Step}
 use Rattle.laws.specs.Figure.{figure}
 use Rattle.refusal.specs.declared.Verdict.{Verdict}
-use Rattle.refusal.specs.declared.Verdict.the-variants.{Accepted, Refused, Unsound}
+use Rattle.refusal.specs.declared.Verdict.the-variants.{Accepted, Unsound}
 use Rattle.refusal.specs.Refusals.{refuse, outside, whenAccepted}
 use Rattle.rounding.specs.Refusals.{refuseState}
 use Rattle.cell.specs.declared.MicroParams.{MicroParams}

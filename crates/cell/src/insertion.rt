@@ -5,7 +5,7 @@ use crate::power;
 use rounding::Divided;
 ghost use mathlib.Core.Path.{_≡_};
 ghost use mathlib.Core.Bool.{true};
-ghost use Prim.Native.Nat.{ℕ, _+_, _≤_, _<_};
+ghost use Prim.Native.Nat.{_+_, _≤_, _<_};
 ghost use lib.ListN.{length, set};
 ghost use Rattle.rounding.specs.Draws.{roundedDiv};
 ghost use Rattle.cell.specs.Cell.{pixelsOf, soundOf};

@@ -2,7 +2,7 @@
 use crate::MicroLayout;
 use crate::MicroParams;
 ghost use mathlib.Core.Path.{_≡_};
-ghost use Prim.Native.Nat.{ℕ, _+_, _^_, _<_, _≤_};
+ghost use Prim.Native.Nat.{_+_, _<_, _≤_};
 ghost use lib.ListN.{length};
 ghost use Rattle.cell.specs.Cell.{pixelsOf, depthOf, slotOf, zoomOf, shutterOf, withZoom, withShutter};
 ghost use Rattle.cell.specs.Refusals.{layoutOf};

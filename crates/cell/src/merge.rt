@@ -8,7 +8,7 @@ use crate::sums;
 use refusal::Verdict;
 ghost use mathlib.Core.Path.{_≡_};
 ghost use mathlib.Core.Bool.{true};
-ghost use Prim.Native.Nat.{ℕ, _+_, _≤_, max};
+ghost use Prim.Native.Nat.{_+_, _≤_, max};
 ghost use lib.ListN.{length};
 ghost use Rattle.cell.specs.Cell.{pixelsOf, depthOf, zoomOf, shutterOf, withPixels, withZoom, withShutter};
 ghost use Rattle.cell.specs.Crossing.{allAtMost};

@@ -1,6 +1,6 @@
 // Powers of the zoom base: what a pixel is worth, and how far a cell can zoom out.
 ghost use mathlib.Core.Path.{_≡_};
-ghost use Prim.Native.Nat.{ℕ, _-_, _^_, _≤_};
+ghost use Prim.Native.Nat.{_-_, _^_, _≤_};
 ghost use Rattle.cell.specs.Cell.{maxZoom};
 ghost use Rattle.cell.specs.Workers.{unitOrZero};
 

@@ -6,7 +6,7 @@ use rounding::Divided;
 use rounding::worker;
 ghost use mathlib.Core.Path.{_≡_};
 ghost use mathlib.Core.Bool.{true};
-ghost use Prim.Native.Nat.{ℕ, _-_, _*_, _^_, _≤_, _<_, min};
+ghost use Prim.Native.Nat.{_-_, _*_, _^_, _≤_, _<_, min};
 ghost use lib.ListN.{length};
 ghost use Rattle.rounding.specs.Draws.{roundedDiv};
 ghost use Rattle.cell.specs.Cell.{pixelsOf, slotOf, pixelsIn, zoomOf, maxZoom};

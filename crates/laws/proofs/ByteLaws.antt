@@ -2,7 +2,7 @@
 use Prim.Native.Nat.{ℕ, zero, suc, _+_, _*_, _/_, _%_, _^_, _≤_, _<_}
 use mathlib.Core.Path.{_≡_, refl, sym, ap, _∙_}
 use mathlib.Core.List.{List, [], _∷_}
-use lib.ListN.{length, getD, set, length-take, drop-of-length-le, List·getD-eq-default}
+use lib.ListN.{length, getD, set, drop-of-length-le, List·getD-eq-default}
 use lib.Seq.{drop-cons, take-nil}
 use lib.Arith.{mod-mul}
 use native.Mathlib.Omega.{arith}
@@ -11,7 +11,7 @@ use native.Mathlib.Numerals.{add-one, towards-suc}
 use native.Mathlib.Decide.{decLt}
 use Rattle.laws.specs.Bytes.{numberOf, bytesOf}
 use Rattle.laws.specs.Parts.{part, splice}
-use Rattle.laws.proofs.PartLaws.{part-at, splice-part, sets-splice}
+use Rattle.laws.proofs.PartLaws.{splice-part, sets-splice}
 
 -- WRITTEN
 pub bytes-length : (w n : ℕ) → length (bytesOf w n) ≡ w
@@ -51,18 +51,6 @@ bytes-number (suc w) (x ∷ xs) h small =
     rw (low, high, bytes-number w xs (omega arith) (λ i. small (suc i)))
 
 -- IN PLACE
-part-small : (a d : ℕ) (b : List ℕ) → ((i : ℕ) → getD b i 0 < 256) → (i : ℕ) → getD (part a d b) i 0 < 256
-part-small a d b small i = by (decLt i d)
-  where
-    by : Dec (i < d) → getD (part a d b) i 0 < 256
-    by (yes h) = rw (part-at a d b i h) (small (a + i))
-    by (no h) =
-        let e : getD (part a d b) i 0 ≡ 0 = List·getD-eq-default (part a d b) 0 (simp length-take (omega arith)) in
-        rw e (omega arith)
-
-pub number-part-below : (w a : ℕ) (b : List ℕ) → ((i : ℕ) → getD b i 0 < 256) → numberOf (part a w b) < 256 ^ w
-number-part-below w a b small = number-below w (part a w b) (simp length-take (omega arith)) (part-small a w b small)
-
 pub number-splice : (w a n : ℕ) (b : List ℕ) → a + w ≤ length b → n < 256 ^ w → numberOf (part a w (splice a w (bytesOf w n) b)) ≡ n
 number-splice w a n b room h = rw (splice-part a w (bytesOf w n) b room (bytes-length w n)) (number-bytes-small w n h)
 
@@ -78,17 +66,10 @@ number-part w a b = by (decLt a (length b))
         let m : length b ≤ a + 1 = omega arith in
         rw (drop-of-length-le b l, drop-of-length-le b m, List·getD-eq-default b 0 l, take-nil w)
 
--- four bytes, and eight, as they are read and stored one by one
+-- four bytes, as they are read and stored one by one
 pub word-part : (a : ℕ) (b : List ℕ) → numberOf (part a 4 b) ≡ getD b a 0 + getD b (a + 1) 0 * 256 + getD b (a + 2) 0 * 65536 + getD b (a + 3) 0 * 16777216
 unfolding numberOf
 word-part a b = rw (number-part 3, number-part 2, number-part 1, number-part 0) (simp add-assoc (omega arith))
-
-pub long-part : (a : ℕ) (b : List ℕ)
-    → numberOf (part a 8 b)
-    ≡ getD b a 0 + getD b (a + 1) 0 * 256 + getD b (a + 2) 0 * 65536 + getD b (a + 3) 0 * 16777216
-    + getD b (a + 4) 0 * 4294967296 + getD b (a + 5) 0 * 1099511627776 + getD b (a + 6) 0 * 281474976710656 + getD b (a + 7) 0 * 72057594037927936
-unfolding numberOf
-long-part a b = rw (number-part 7, number-part 6, number-part 5, number-part 4, number-part 3, number-part 2, number-part 1, number-part 0) (simp add-assoc (omega arith))
 
 module _ (a v : ℕ) (b : List ℕ) where
   -- b with the lowest four bytes of v stored from a on
@@ -98,19 +79,3 @@ module _ (a v : ℕ) (b : List ℕ) where
   pub word-splice : a + 4 ≤ length b → word ≡ splice a 4 (bytesOf 4 v) b
   unfolding bytesOf
   word-splice room = simp (towards-suc, ← div-div-eq-div-mul v 256 256, ← div-div-eq-div-mul v 65536 256) (sets-splice a (bytesOf 4 v) b room)
-
-  pub long-splice : a + 8 ≤ length b
-      → set (set (set (set word (a + 4) (v / 4294967296 % 256)) (a + 5) (v / 1099511627776 % 256)) (a + 6) (v / 281474976710656 % 256)) (a + 7) (v / 72057594037927936 % 256)
-      ≡ splice a 8 (bytesOf 8 v) b
-  unfolding bytesOf
-  long-splice room =
-      simp (
-        towards-suc,
-        ← div-div-eq-div-mul v 256 256,
-        ← div-div-eq-div-mul v 65536 256,
-        ← div-div-eq-div-mul v 16777216 256,
-        ← div-div-eq-div-mul v 4294967296 256,
-        ← div-div-eq-div-mul v 1099511627776 256,
-        ← div-div-eq-div-mul v 281474976710656 256,
-      )
-      (sets-splice a (bytesOf 8 v) b room)

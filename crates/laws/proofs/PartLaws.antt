@@ -2,8 +2,8 @@
 use Prim.Native.Nat.{ℕ, suc, _+_, _-_, _*_, _≤_, _<_}
 use mathlib.Core.Path.{_≡_, sym, _∙_}
 use mathlib.Core.List.{List, _++_, append-assoc}
-use lib.ListN.{length, take, drop, getD, length-take, length-drop, length-append, take-append-drop, List·getD-append}
-use lib.Seq.{take-at, drop-at, take-append-add, drop-append-add, drop-drop, getD-take, getD-drop, getD-append-add, length-take-le, ext-getD, sets, sets-eq}
+use lib.ListN.{length, take, drop, getD, length-take, length-drop, length-append, List·getD-append}
+use lib.Seq.{take-at, drop-at, take-append-add, drop-append-add, drop-drop, getD-take, getD-drop, length-take-le, ext-getD, sets, sets-eq}
 use native.Mathlib.Omega.{arith}
 use native.Mathlib.Nat.{suc-mul, mul-le-mul-right, le-refl}
 use native.Mathlib.Decide.{ℕ-discrete, decLt}
@@ -15,9 +15,6 @@ module _ (a d : ℕ) (l : List ℕ) where
 
   pub part-length : a + d ≤ length l → length (part a d l) ≡ d
   part-length room = simp (length-take, length-drop) (omega arith)
-
-  pub splice-same : splice a d (part a d l) l ≡ l
-  splice-same = rw (take-append-drop d (drop a l)) (take-append-drop a l)
 
 -- a part is its elements
 pub part-same : (a d : ℕ) (l m : List ℕ) → length l ≡ length m → ((i : ℕ) → i < d → getD l (a + i) 0 ≡ getD m (a + i) 0) → part a d l ≡ part a d m
@@ -46,9 +43,6 @@ module _ (a d : ℕ) (ys l : List ℕ) (room : a + d ≤ length l) (long : lengt
 
   pub splice-at-before : (i : ℕ) → i < a → getD (splice a d ys l) i 0 ≡ getD l i 0
   splice-at-before i h = List·getD-append (take a l) (ys ++ drop d (drop a l)) 0 i (omega (arith, front)) ∙ getD-take a l i 0 h
-
-  pub splice-at-inside : (i : ℕ) → i < d → getD (splice a d ys l) (a + i) 0 ≡ getD ys i 0
-  splice-at-inside i h = (rw front at (getD-append-add (take a l) (ys ++ drop d (drop a l)) i 0)) ∙ List·getD-append ys (drop d (drop a l)) 0 i (omega arith)
 
   pub splice-at-behind : (i : ℕ) → a + d ≤ i → getD (splice a d ys l) i 0 ≡ getD l i 0
   splice-at-behind i h =

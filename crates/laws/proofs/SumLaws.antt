@@ -55,18 +55,3 @@ total-within (suc k) e f g h m =
     let a : Within ((2 * k + 1) * e) (total k f) (total k g) = total-within k e f g h (λ i s l. m i s (le-step l)) in
     let b : Within (2 * e) (f (suc k)) (g (suc k)) = m (suc k) (omega arith) (le-refl (suc k)) in
     record { low = omega arith; high = omega arith }
-
--- equal is within 0
-module _ (k : ℕ) (f g : ℕ → ℕ) (same : (i : ℕ) → i ≤ k → f i ≡ g i) where
-  near : (i : ℕ) → i ≤ k → Within 0 (f i) (g i)
-  near i l = record { low = omega (arith, same i l); high = omega (arith, same i l) }
-
-  pub least-same : least k f ≡ least k g
-  least-same =
-      let w : Within 0 (least k f) (least k g) = least-within k 0 f g near in
-      omega arith
-
-  pub total-same : total k f ≡ total k g
-  total-same =
-      let w : Within ((2 * k + 1) * 0) (total k f) (total k g) = total-within k 0 f g (near 0 (omega arith)) (λ i s l. near i l) in
-      omega arith

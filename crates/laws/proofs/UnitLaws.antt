@@ -1,6 +1,6 @@
 -- The clock's fraction, 1.0 − remainder / length, is from 0 to 1: rounding keeps the order of fractions, so the rounded quotient is at most 1, and the rounded difference from 0 to 1.
 use mathlib.Core.Path.{_≡_, refl, sym, ap, _∙_, subst}
-use mathlib.Core.Bool.{Bool, true, false, not, _&&_}
+use mathlib.Core.Bool.{true, false, not}
 use mathlib.Core.Logic.{_⊎_, inl, inr, ⊎-elim}
 use Prim.Native.Nat.{ℕ, _-_, _*_, _^_, _≤_, _<_}
 use native.Mathlib.Nat.{mul-one, one-mul, zero-mul, mul-pos, eq-zero-or-pos, lt-irrefl}

@@ -1,6 +1,6 @@
 -- A row and a column below their limits make an index below the number of cells, and the cell of such an index lies in the grid.
 use Prim.Native.Nat.{ℕ, zero, suc, _+_, _*_, _^_, _≤_, _<_}
-use mathlib.Core.Path.{_≡_, refl, sym, ap, _∙_}
+use mathlib.Core.Path.{_≡_, refl, sym}
 use mathlib.Core.Bool.{Bool, true, false, _&&_, true≢false}
 use mathlib.Core.List.{List, [], _∷_}
 use native.Mathlib.Omega.{arith}
@@ -12,7 +12,7 @@ use borrow.Author.Tests.{ltb-true, eqb-true}
 use Rattle.laws.proofs.PartLaws.{piece-room}
 use Rattle.cell.specs.Cell.{depthOf}
 use Rattle.microscope.specs.declared.MicroCm.{MicroCm}
-use Rattle.microscope.specs.Sketch.{cellsOf, gridBytes, cellIndex}
+use Rattle.microscope.specs.Sketch.{cellsOf, gridBytes}
 use Rattle.microscope.specs.Refusals.{allBelow, keyFits}
 use Rattle.microscope.specs.Workers.{Ready}
 

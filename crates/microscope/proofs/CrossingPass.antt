@@ -1,11 +1,10 @@
 -- Every cell crosses in place, from the front: a pass over equal pieces, each of which was judged before the pass began. Assumes nothing.
-use Prim.Native.Nat.{ℕ, _+_, _-_, _*_, _^_, _≤_, _<_}
-use mathlib.Core.Path.{_≡_, refl, sym, ap, _∙_}
+use Prim.Native.Nat.{ℕ, _+_, _-_, _^_, _≤_, _<_}
+use mathlib.Core.Path.{_≡_, refl}
 use mathlib.Core.Bool.{true}
 use mathlib.Core.List.{List}
 use native.Mathlib.Omega.{arith}
 use lib.ListN.{length, take, drop}
-use Rattle.laws.specs.Parts.{part}
 use Rattle.laws.specs.Passes.{eachOf}
 use Rattle.laws.proofs.PassLaws.{Going, going-piece, going-length}
 use Rattle.cell.specs.Cell.{depthOf, soundOf}

@@ -1,31 +1,23 @@
 -- The ways through the judges of a sketch and of its cells, in the form in which the code comes to them. Assumes nothing.
-use Prim.Native.Nat.{ℕ, zero, suc, _+_, _-_, _*_, _^_, _≤_, _<_}
-use mathlib.Core.Path.{_≡_, refl, sym, ap, _∙_}
-use mathlib.Core.Bool.{Bool, true, false, not, cond}
-use mathlib.Core.List.{List, [], _∷_}
+use Prim.Native.Nat.{ℕ, _-_, _*_, _^_, _≤_, _<_}
+use mathlib.Core.Path.{_≡_, refl, sym, _∙_}
+use mathlib.Core.Bool.{Bool, true, false, not}
+use mathlib.Core.List.{List}
 use native.Mathlib.Omega.{arith}
-use native.Mathlib.Nat.{add-sub-cancel-left}
-use native.Mathlib.Numerals.{add-one}
-use lib.Dec.{eqb}
-use lib.ListN.{length, take, drop, getD, drop-of-length-le}
-use lib.Seq.{drop-cons}
+use lib.ListN.{length}
 use borrow.Author.Tests.{eq-eqb, ne-eqb}
 use Rattle.refusal.specs.declared.Verdict.{Verdict}
-use Rattle.refusal.specs.declared.Verdict.the-variants.{Accepted, Refused, Unsound}
+use Rattle.refusal.specs.declared.Verdict.the-variants.{Accepted, Refused}
 use Rattle.refusal.specs.Refusals.{isAccepted, refuse, outside, whenAccepted}
 use Rattle.refusal.proofs.VerdictLaws.{refused-leaves, turned-back, let-pass}
-use Rattle.laws.proofs.PartLaws.{part-length}
 use Rattle.cell.specs.declared.MicroParams.{MicroParams}
-use Rattle.cell.specs.Cell.{depthOf, soundOf}
+use Rattle.cell.specs.Cell.{depthOf}
 use Rattle.cell.specs.Refusals.{paramsVerdict, refuseParams}
 use Rattle.clock.specs.declared.SubWindowClock.{SubWindowClock}
 use Rattle.clock.specs.Clock.{lengthOf}
 use Rattle.clock.specs.Refusals.{lengthVerdict, refuseLength}
-use Rattle.rounding.specs.Refusals.{refuseState}
 use Rattle.microscope.specs.declared.MicroCm.{MicroCm}
-use Rattle.microscope.specs.Sketch.{cellsOf, gridBytes, cellOf, cellIndex, keyCells, countFrom, allCells}
-use Rattle.microscope.specs.Figures.{keyCell}
-use Rattle.microscope.specs.Audit.{firstUnsound}
+use Rattle.microscope.specs.Sketch.{gridBytes}
 use Rattle.microscope.specs.Refusals.{gridFits, refuseSettings, sketchVerdict}
 use Rattle.microscope.proofs.SettingsLaws.{GoodSettings, good-settings}
 use Rattle.microscope.proofs.AddressLaws.{product-le}

@@ -1,19 +1,19 @@
 -- The loops that judge cells: what is left to judge from here on decides, since all before it is sound. Assumes nothing.
-use Prim.Native.Nat.{ℕ, zero, suc, _+_, _-_, _*_, _≤_, _<_}
+use Prim.Native.Nat.{ℕ, suc, _+_, _-_, _*_, _≤_, _<_}
 use mathlib.Core.Path.{_≡_, refl, sym, ap, _∙_}
-use mathlib.Core.Bool.{Bool, true, false, not, cond}
-use mathlib.Core.List.{List, [], _∷_}
+use mathlib.Core.Bool.{Bool, true, false, not}
+use mathlib.Core.List.{List, _∷_}
 use native.Mathlib.Omega.{arith}
-use native.Mathlib.Nat.{add-sub-cancel-left, zero-add, sub-zero}
+use native.Mathlib.Nat.{add-sub-cancel-left, sub-zero}
 use native.Mathlib.Numerals.{add-one}
-use lib.ListN.{length, take, drop, getD, drop-of-length-le}
+use lib.ListN.{length, take, drop, drop-of-length-le}
 use lib.Seq.{drop-cons}
 use borrow.Author.Tests.{not-true, not-false}
 use Rattle.refusal.specs.declared.Verdict.{Verdict}
 use Rattle.refusal.specs.declared.Verdict.the-variants.{Accepted, Unsound}
 use Rattle.cell.specs.Cell.{depthOf, soundOf}
 use Rattle.microscope.specs.declared.MicroCm.{MicroCm}
-use Rattle.microscope.specs.Sketch.{cellsOf, cellOf, cellIndex, keyCells, countFrom, allCells}
+use Rattle.microscope.specs.Sketch.{cellsOf, cellOf, keyCells, countFrom, allCells}
 use Rattle.microscope.specs.Figures.{keyCell}
 use Rattle.microscope.specs.Audit.{firstUnsound}
 

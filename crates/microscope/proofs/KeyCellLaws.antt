@@ -1,20 +1,19 @@
 -- The key's cell in a row, as the code lends it: a part of the grid that is that cell, of its depth, and sound. Assumes nothing.
 use Prim.Native.Nat.{ℕ, _+_, _-_, _*_, _^_, _≤_, _<_}
-use mathlib.Core.Path.{_≡_, refl, sym, ap, _∙_}
+use mathlib.Core.Path.{_≡_, refl, _∙_}
 use mathlib.Core.Bool.{true}
 use mathlib.Core.List.{List}
-use native.Mathlib.Omega.{arith}
 use native.Mathlib.Nat.{add-sub-cancel-left, zero-add}
-use lib.ListN.{length, take, drop, getD}
+use lib.ListN.{length, take, drop}
 use Rattle.laws.proofs.PartLaws.{part-length}
 use Rattle.cell.specs.Cell.{depthOf, zoomOf, shutterOf, unitOf, soundOf}
 use Rattle.cell.proofs.SoundLaws.{sound-unit, sound-shutter}
 use Rattle.clock.specs.Clock.{nOf}
 use Rattle.microscope.specs.declared.MicroCm.{MicroCm}
-use Rattle.microscope.specs.Sketch.{cellsOf, cellOf, cellIndex}
+use Rattle.microscope.specs.Sketch.{cellOf}
 use Rattle.microscope.specs.Figures.{itemsIn, keyCell, rowItems}
-use Rattle.microscope.specs.Workers.{Ready, Readable, rowUnit}
-use Rattle.microscope.proofs.AddressLaws.{key-rows, key-column, index-lt, cell-room, grid-short}
+use Rattle.microscope.specs.Workers.{Readable, rowUnit}
+use Rattle.microscope.proofs.AddressLaws.{key-rows}
 use Rattle.microscope.proofs.JudgedLaws.{judged-key}
 
 module _ (k : MicroCm) (g key : List ℕ) (w : Readable k key g) (row : ℕ) (h : row < k .rows) where

@@ -1,23 +1,18 @@
 -- An item in one cell of the grid, and in the key's cell of each row: what the code lends and leaves is what the definitions say. Assumes nothing.
-use Prim.Native.Nat.{ℕ, zero, suc, _+_, _-_, _*_, _^_, _≤_, _<_}
-use mathlib.Core.Path.{_≡_, refl, sym, ap, _∙_}
-use mathlib.Core.Bool.{Bool, true}
-use mathlib.Core.List.{List, [], _∷_, _++_}
-use native.Mathlib.Omega.{arith}
-use native.Mathlib.Nat.{add-sub-cancel-left, add-assoc, zero-add, add-zero}
-use native.Mathlib.Numerals.{add-one}
-use lib.ListN.{length, take, drop, getD, drop-of-length-le}
-use lib.Seq.{drop-cons}
-use Rattle.laws.specs.Steps.{Step, still, later}
+use Prim.Native.Nat.{ℕ, _+_, _-_, _*_, _≤_}
+use mathlib.Core.Path.{_≡_, refl, _∙_}
+use mathlib.Core.Bool.{true}
+use mathlib.Core.List.{List, _++_}
+use native.Mathlib.Nat.{add-sub-cancel-left}
+use lib.ListN.{length, take, drop}
 use Rattle.laws.proofs.PartLaws.{part-length}
 use Rattle.cell.specs.declared.Drawn as cell
 use Rattle.cell.specs.Cell.{depthOf, soundOf}
 use Rattle.cell.specs.Insertion.{insertOf}
 use Rattle.cell.specs.Workers.{Fit, stepOf}
 use Rattle.microscope.specs.declared.MicroCm.{MicroCm}
-use Rattle.microscope.specs.Sketch.{cellsOf, cellOf, keyCells, insertAt, insertEach}
-use Rattle.microscope.specs.Figures.{keyCell}
-use Rattle.microscope.specs.Workers.{Ready, Judged}
+use Rattle.microscope.specs.Sketch.{cellOf, insertAt}
+use Rattle.microscope.specs.Workers.{Ready}
 
 -- ONE CELL, lent as the part of the grid from `start` on
 module _ (k : MicroCm) (g : List ℕ) (index start d : ℕ) (es : start ≡ index * depthOf (k .params .t)) (ed : d ≡ depthOf (k .params .t)) where

@@ -1,5 +1,5 @@
 -- An item goes from row to row: what is left to do from here gives the whole, and the cells of the rows to come are as they were. Assumes nothing.
-use Prim.Native.Nat.{ℕ, zero, suc, _+_, _*_, _^_, _≤_, _<_}
+use Prim.Native.Nat.{ℕ, suc, _+_, _*_, _^_, _≤_, _<_}
 use mathlib.Core.Path.{_≡_, refl, sym, ap, _∙_}
 use mathlib.Core.Bool.{true}
 use mathlib.Core.List.{List, [], _∷_}
@@ -8,18 +8,18 @@ use native.Mathlib.Nat.{add-assoc, zero-add, add-zero, add-mul, le-trans, mul-le
 use native.Mathlib.Numerals.{add-one}
 use lib.ListN.{length, drop, getD, drop-of-length-le}
 use lib.Seq.{drop-cons}
-use Rattle.laws.specs.Steps.{Step, still, later}
+use Rattle.laws.specs.Steps.{Step, later}
 use Rattle.cell.specs.declared.Drawn as cell
 use Rattle.cell.specs.Cell.{depthOf, soundOf}
 use Rattle.cell.specs.Workers.{Fit, stepOf}
 use Rattle.microscope.specs.declared.MicroCm.{MicroCm}
 use Rattle.microscope.specs.declared.Passed.{Passed}
-use Rattle.microscope.specs.Sketch.{cellsOf, gridBytes, cellOf, cellIndex, keyCells, insertAt, insertEach}
+use Rattle.microscope.specs.Sketch.{cellsOf, cellOf, cellIndex, keyCells, insertAt, insertEach}
 use Rattle.microscope.specs.Figures.{keyCell}
 use Rattle.microscope.specs.Refusals.{keyFits}
 use Rattle.microscope.specs.Audit.{firstUnsound}
 use Rattle.microscope.specs.Workers.{Ready, Judged, Readable, passOf}
-use Rattle.microscope.proofs.AddressLaws.{key-rows, key-column, key-row, index-lt}
+use Rattle.microscope.proofs.AddressLaws.{key-rows, key-column, key-row}
 use Rattle.microscope.proofs.JudgedLaws.{judged-cons, cons-judged}
 use Rattle.microscope.proofs.GridLaws.{at-other, at-length}
 

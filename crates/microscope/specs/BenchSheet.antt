@@ -7,7 +7,6 @@ use lib.Ieee.{Float}
 use Rattle.laws.specs.Figure.{figure}
 use Rattle.clock.specs.declared.SubWindowClock.the-variants.{CountBased}
 use Rattle.clock.specs.Clock.{fractionOf}
-use Rattle.microscope.specs.declared.MicroCm.{MicroCm}
 use Rattle.microscope.specs.Sketch.{freshSketch, freshGrid, World, updated}
 use Rattle.microscope.specs.Figures.{overOf, underOf, linearOf, meanOf}
 use Rattle.microscope.specs.Refusals.{world}

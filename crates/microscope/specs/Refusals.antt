@@ -1,5 +1,5 @@
 -- Document 01, "Turning a call back", for the calls on a sketch. Each call's answer, whole, and the bytes that it leaves.
-use Prim.Native.Nat.{ℕ, zero, suc, _*_, _^_, _≤_}
+use Prim.Native.Nat.{ℕ, zero, suc, _*_, _^_}
 use mathlib.Core.Bool.{Bool, true, not, cond, _&&_, _||_}
 use mathlib.Core.List.{List, [], _∷_}
 use lib.Dec.{leb, ltb, eqb}
@@ -8,13 +8,13 @@ use lib.ListN.{length}
 use Rattle.laws.specs.Figure.{figure}
 use Rattle.laws.specs.Unit.{inUnit}
 use Rattle.refusal.specs.declared.Verdict.{Verdict}
-use Rattle.refusal.specs.declared.Verdict.the-variants.{Accepted, Refused, Unsound}
+use Rattle.refusal.specs.declared.Verdict.the-variants.{Accepted, Unsound}
 use Rattle.refusal.specs.Refusals.{numberOf, refuse, whenAccepted}
 use Rattle.rounding.specs.Refusals.{refuseState}
 use Rattle.cell.specs.declared.MicroParams.{MicroParams}
 use Rattle.cell.specs.Refusals.{refuseParams}
 use Rattle.clock.specs.declared.SubWindowClock.{SubWindowClock}
-use Rattle.clock.specs.declared.SubWindowClock.the-variants.{CountBased, TimeBased}
+use Rattle.clock.specs.declared.SubWindowClock.the-variants.{CountBased}
 use Rattle.clock.specs.Clock.{nOf, fractionOf, isCount, tickOf, advanceOf, sameFrame}
 use Rattle.clock.specs.Refusals.{refuseLength}
 use Rattle.microscope.specs.declared.MicroCm.{MicroCm}

@@ -1,5 +1,5 @@
 -- Document 01, "Sketch and grid": where a cell stands, a fresh sketch, and what the accepted calls do.
-use Prim.Native.Nat.{ℕ, zero, suc, _+_, _-_, _*_}
+use Prim.Native.Nat.{ℕ, zero, suc, _+_, _*_}
 use mathlib.Core.List.{List, [], _∷_}
 use lib.ListN.{replicate}
 use Rattle.laws.specs.Parts.{part, splice}

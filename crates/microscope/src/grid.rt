@@ -2,10 +2,9 @@
 use crate::MicroCm;
 ghost use mathlib.Core.Path.{_≡_};
 ghost use mathlib.Core.Bool.{true};
-ghost use Prim.Native.Nat.{ℕ, _+_, _*_, _≤_, _<_};
-ghost use lib.ListN.{length};
+ghost use Prim.Native.Nat.{_+_, _*_, _≤_, _<_};
 ghost use Rattle.cell.specs.Cell.{depthOf};
-ghost use Rattle.microscope.specs.Sketch.{cellsOf, gridBytes, cellIndex};
+ghost use Rattle.microscope.specs.Sketch.{cellsOf, cellIndex};
 ghost use Rattle.microscope.specs.Figures.{keyCell};
 ghost use Rattle.microscope.specs.Refusals.{keyFits};
 ghost use Rattle.microscope.specs.Workers.{Ready};

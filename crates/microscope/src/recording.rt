@@ -6,13 +6,12 @@ use crate::grid;
 use cell::Drawn;
 ghost use mathlib.Core.Path.{_≡_};
 ghost use mathlib.Core.Bool.{true};
-ghost use Prim.Native.Nat.{ℕ, _+_, _*_, _≤_, _<_};
+ghost use Prim.Native.Nat.{_+_, _*_, _≤_, _<_};
 ghost use lib.ListN.{length};
 ghost use Rattle.laws.specs.Passes.{eachOf};
 ghost use Rattle.cell.specs.Cell.{depthOf, soundOf};
 ghost use Rattle.cell.specs.Workers.{stepOf};
 ghost use Rattle.microscope.specs.Sketch.{cellsOf, cellOf, keyCells, allCells, insertAt, insertEach, crossEach};
-ghost use Rattle.microscope.specs.Refusals.{keyFits};
 ghost use Rattle.microscope.specs.Workers.{Ready, Judged, Readable, passOf, Crossable, crossPiece};
 
 fn insert_at(sketch: MicroCm, grid: &mut [u8], index: usize, n: u64, state: u64) -> Drawn

@@ -1,6 +1,6 @@
 -- Draws and divisions that the checker computes: the definitions are not empty. Assumes nothing.
 use mathlib.Core.Path.{_≡_, refl}
-use Rattle.refusal.specs.declared.Verdict.the-variants.{Accepted, Refused}
+use Rattle.refusal.specs.declared.Verdict.the-variants.{Refused}
 use Rattle.rounding.specs.Draws.{seeded, xorDown, xorUp, nextState, yielded, drawOf, stateAfter, roundedDiv}
 use Rattle.rounding.specs.Refusals.{divisionCall}
 

@@ -2,7 +2,7 @@
 use Prim.Native.Nat.{ℕ}
 use lib.Dec.{eqb}
 use Rattle.refusal.specs.declared.Verdict.{Verdict}
-use Rattle.refusal.specs.declared.Verdict.the-variants.{Accepted, Refused, Unsound}
+use Rattle.refusal.specs.declared.Verdict.the-variants.{Accepted}
 use Rattle.refusal.specs.Refusals.{refuse, whenAccepted}
 use Rattle.rounding.specs.declared.Divided.{Divided}
 use Rattle.rounding.specs.declared.DrawAnswer.{DrawAnswer}

@@ -1,6 +1,5 @@
 -- `exact`: a whole number up to 2 ^ 53 is its f64. Assumes nothing.
 use Rattle.laws.proofs.FigureLaws.{castable}
-use native.Mathlib.Omega.{arith}
 use borrow.Author.Needs.{needs}
 use Rattle.microscope.proofs.figures.exact.Statement.{statement}
 use Rattle.microscope.proofs.figures.exact.Tie as tie

@@ -2,7 +2,6 @@
 use Rattle.microscope.proofs.FigureLoops.{Filling, filling-begin, filling-on, filling-end}
 use Prim.Native.Nat.{_-_}
 use borrow.Author.Needs.{needs}
-use native.Mathlib.Omega.{arith}
 use Rattle.microscope.proofs.figures.fill_units.Statement.{statement}
 use Rattle.microscope.proofs.figures.fill_units.Tie as tie
 

@@ -1,6 +1,5 @@
 -- `items_in`: each way out is a case of `itemsIn`, and a byte times a unit of four bytes is far below 2 ^ 64. Assumes nothing.
 use Rattle.microscope.proofs.FigureCases.{slot-inside, items-fits, present-fits, present-le, past-le, items-past, items-present}
-use native.Mathlib.Omega.{arith}
 use borrow.Author.Needs.{needs}
 use Rattle.microscope.proofs.figures.items_in.Statement.{statement}
 use Rattle.microscope.proofs.figures.items_in.Tie as tie

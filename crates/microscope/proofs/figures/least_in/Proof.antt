@@ -2,7 +2,6 @@
 use Rattle.microscope.proofs.FigureLoops.{units-at, Leasting, leasting-begin, leasting-on, leasting-end}
 use Prim.Native.Nat.{_-_}
 use borrow.Author.Needs.{needs}
-use native.Mathlib.Omega.{arith}
 use Rattle.microscope.proofs.figures.least_in.Statement.{statement}
 use Rattle.microscope.proofs.figures.least_in.Tie as tie
 

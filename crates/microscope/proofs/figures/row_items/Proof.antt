@@ -1,6 +1,5 @@
 -- `row_items`: the part that is lent is the key's cell in that row. Assumes nothing.
 use Rattle.microscope.proofs.KeyCellLaws.{lent-room, lent-unit, unit-low, lent-shutter, items-are}
-use native.Mathlib.Omega.{arith}
 use borrow.Author.Needs.{needs}
 use Rattle.microscope.proofs.figures.row_items.Statement.{statement}
 use Rattle.microscope.proofs.figures.row_items.Tie as tie

@@ -1,6 +1,5 @@
 -- `row_unit`: the part that is lent is the key's cell, whose zoom was judged. Assumes nothing.
-use Rattle.microscope.proofs.KeyCellLaws.{lent-room, lent-power, power-is}
-use native.Mathlib.Omega.{arith}
+use Rattle.microscope.proofs.KeyCellLaws.{lent-power, power-is}
 use borrow.Author.Needs.{needs}
 use Rattle.microscope.proofs.figures.row_unit.Statement.{statement}
 use Rattle.microscope.proofs.figures.row_unit.Tie as tie

@@ -2,7 +2,6 @@
 use Rattle.microscope.proofs.FigureLoops.{Summing, summing-begin, summing-exact, summing-room, summing-on, summing-end, summing-few}
 use Prim.Native.Nat.{_-_}
 use borrow.Author.Needs.{needs}
-use native.Mathlib.Omega.{arith}
 use Rattle.microscope.proofs.figures.sum_back.Statement.{statement}
 use Rattle.microscope.proofs.figures.sum_back.Tie as tie
 

@@ -1,7 +1,6 @@
 -- `cell_index`: a row and a column below their limits make an index below the number of cells. Assumes nothing.
 use Rattle.microscope.proofs.AddressLaws.{row-fits, index-fits, index-lt}
 use borrow.Author.Needs.{needs}
-use native.Mathlib.Omega.{arith}
 use Rattle.microscope.proofs.grid.cell_index.Statement.{statement}
 use Rattle.microscope.proofs.grid.cell_index.Tie as tie
 

@@ -1,6 +1,5 @@
 -- `start_of`: the cell of an index below the number of cells lies in the grid. Assumes nothing.
 use Rattle.microscope.proofs.AddressLaws.{start-fits, cell-room}
-use native.Mathlib.Omega.{arith}
 use borrow.Author.Needs.{needs}
 use Rattle.microscope.proofs.grid.start_of.Statement.{statement}
 use Rattle.microscope.proofs.grid.start_of.Tie as tie

@@ -3,7 +3,6 @@ use Rattle.microscope.proofs.JudgeLoops.{AllLeft, all-begin, all-found,
 use Prim.Native.Nat.{_-_}
 use Rattle.microscope.proofs.AddressLaws.{cells-fit, index-next}
 use borrow.Author.Needs.{needs}
-use native.Mathlib.Omega.{arith}
 use Rattle.microscope.proofs.judge.all_cells.Statement.{statement}
 use Rattle.microscope.proofs.judge.all_cells.Tie as tie
 

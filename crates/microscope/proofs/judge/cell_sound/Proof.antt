@@ -1,6 +1,5 @@
 -- `cell_sound`: the part that is lent is the cell. Assumes nothing.
 use Rattle.microscope.proofs.JudgeLoops.{sound-lent}
-use native.Mathlib.Omega.{arith}
 use borrow.Author.Needs.{needs}
 use Rattle.microscope.proofs.judge.cell_sound.Statement.{statement}
 use Rattle.microscope.proofs.judge.cell_sound.Tie as tie

@@ -1,7 +1,6 @@
 -- `column_bits`: no power of two above the present one is cols. Assumes nothing.
 use Rattle.microscope.proofs.SettingsCases.{Descending, descending-begin, descending-found, descending-on, descending-end}
 use borrow.Author.Needs.{needs}
-use native.Mathlib.Omega.{arith}
 use Rattle.microscope.proofs.judge.column_bits.Statement.{statement}
 use Rattle.microscope.proofs.judge.column_bits.Tie as tie
 

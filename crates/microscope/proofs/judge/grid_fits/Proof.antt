@@ -1,6 +1,5 @@
 -- `grid_fits`: each way out is a part of the test, and rows is tested before it is multiplied. Assumes nothing.
 use Rattle.microscope.proofs.SettingsCases.{no-rows, no-bits, many-rows, bits-decide, few-products}
-use native.Mathlib.Omega.{arith}
 use borrow.Author.Needs.{needs}
 use Rattle.microscope.proofs.judge.grid_fits.Statement.{statement}
 use Rattle.microscope.proofs.judge.grid_fits.Tie as tie

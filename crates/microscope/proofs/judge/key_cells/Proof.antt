@@ -4,7 +4,6 @@ use Prim.Native.Nat.{_-_}
 use Rattle.microscope.proofs.AddressLaws.{key-row}
 use lib.ListN.{length}
 use borrow.Author.Needs.{needs}
-use native.Mathlib.Omega.{arith}
 use Rattle.microscope.proofs.judge.key_cells.Statement.{statement}
 use Rattle.microscope.proofs.judge.key_cells.Tie as tie
 

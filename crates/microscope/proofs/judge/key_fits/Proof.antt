@@ -1,6 +1,5 @@
 -- `key_fits`: one column a row, and each below cols. Assumes nothing.
 use Rattle.microscope.proofs.SettingsCases.{key-length, key-other}
-use native.Mathlib.Omega.{arith}
 use borrow.Author.Needs.{needs}
 use Rattle.microscope.proofs.judge.key_fits.Statement.{statement}
 use Rattle.microscope.proofs.judge.key_fits.Tie as tie

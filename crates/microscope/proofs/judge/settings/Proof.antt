@@ -1,6 +1,5 @@
 -- `settings`: what the cell, the clock and the shape say, lowest number first. Assumes nothing.
 use Rattle.microscope.proofs.JudgeCases.{params-refused, length-refused, settings-accepted, shape-refused}
-use native.Mathlib.Omega.{arith}
 use borrow.Author.Needs.{needs}
 use Rattle.microscope.proofs.judge.settings.Statement.{statement}
 use Rattle.microscope.proofs.judge.settings.Tie as tie

@@ -1,6 +1,5 @@
 -- `sketch`: the settings, then the random state, then the grid's length. Assumes nothing.
 use Rattle.microscope.proofs.JudgeCases.{settings-refused, state-refused, shape-fits, t-few, size-fits, sketch-accepted, grid-refused}
-use native.Mathlib.Omega.{arith}
 use borrow.Author.Needs.{needs}
 use Rattle.microscope.proofs.judge.sketch.Statement.{statement}
 use Rattle.microscope.proofs.judge.sketch.Tie as tie

@@ -5,7 +5,6 @@ use Rattle.cell.specs.Cell.{depthOf}
 use Rattle.microscope.specs.Workers.{crossPiece}
 use Prim.Native.Nat.{_-_}
 use borrow.Author.Needs.{needs}
-use native.Mathlib.Omega.{arith}
 use Rattle.microscope.proofs.recording.cross_cells.Statement.{statement}
 use Rattle.microscope.proofs.recording.cross_cells.Tie as tie
 

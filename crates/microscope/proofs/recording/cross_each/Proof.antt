@@ -1,7 +1,6 @@
 -- `cross_each`: the pieces are the sketch's cells, each of which was judged. Assumes nothing.
 use Rattle.microscope.proofs.CrossingPass.{crossable, crossed-all}
 use Rattle.microscope.proofs.AddressLaws.{cells-fit}
-use native.Mathlib.Omega.{arith}
 use borrow.Author.Needs.{needs}
 use Rattle.microscope.proofs.recording.cross_each.Statement.{statement}
 use Rattle.microscope.proofs.recording.cross_each.Tie as tie

@@ -1,6 +1,5 @@
 -- `insert_at`: the part that is lent is the cell, and the grid comes back with it replaced. Assumes nothing.
 use Rattle.microscope.proofs.RecordingCases.{lent-fit, lent-sound, insert-left}
-use native.Mathlib.Omega.{arith}
 use borrow.Author.Needs.{needs}
 use Rattle.microscope.proofs.recording.insert_at.Statement.{statement}
 use Rattle.microscope.proofs.recording.insert_at.Tie as tie

@@ -4,7 +4,6 @@ use Rattle.microscope.proofs.AddressLaws.{key-row}
 use Prim.Native.Nat.{_-_}
 use lib.ListN.{length}
 use borrow.Author.Needs.{needs}
-use native.Mathlib.Omega.{arith}
 use Rattle.microscope.proofs.recording.insert_each.Statement.{statement}
 use Rattle.microscope.proofs.recording.insert_each.Tie as tie
 

@@ -1,8 +1,6 @@
 -- `Rounding::new`: each way out is the case of `seeded` that its test picks. Assumes nothing.
 use borrow.Author.Tests.{eq-eqb, ne-eqb}
 use Rattle.rounding.specs.Draws.{seeded}
-use borrow.Author.Needs.{needs}
-use native.Mathlib.Omega.{arith}
 use Rattle.rounding.proofs.Rounding.new.Statement.{statement}
 use Rattle.rounding.proofs.Rounding.new.Tie as tie
 

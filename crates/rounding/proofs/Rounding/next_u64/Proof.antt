@@ -1,6 +1,5 @@
 -- `Rounding::next_u64`: each way out is a case of `drawCall`. Assumes nothing.
 use Rattle.rounding.proofs.CallLaws.{draw-refused, draw-done}
-use native.Mathlib.Omega.{arith}
 use borrow.Author.Needs.{needs}
 use Rattle.rounding.proofs.Rounding.next_u64.Statement.{statement}
 use Rattle.rounding.proofs.Rounding.next_u64.Tie as tie

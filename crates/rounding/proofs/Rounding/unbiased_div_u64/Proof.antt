@@ -1,6 +1,5 @@
 -- `Rounding::unbiased_div_u64`: each way out is a case of `divisionCall`. Assumes nothing.
 use Rattle.rounding.proofs.CallLaws.{state-refused, divisor-refused, division-done}
-use native.Mathlib.Omega.{arith}
 use borrow.Author.Needs.{needs}
 use Rattle.rounding.proofs.Rounding.unbiased_div_u64.Statement.{statement}
 use Rattle.rounding.proofs.Rounding.unbiased_div_u64.Tie as tie
