@@ -61,4 +61,5 @@ cell-items = record {
   item-7 = λ σ. (refl, refl);
   item-8 = λ σ. refl;
   item-9 = (item-9-odd, item-9-even);
+  closing = refl;
 }

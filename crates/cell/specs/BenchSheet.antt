@@ -43,3 +43,5 @@ pub record CellItems : Type 0 where
   pub item-8 : (σ : ℕ) → doubled 1 (cellWith 255 0 0 0 0) σ ≡ still (cellWith 255 0 0 1 0) σ
   pub item-9 : (doubled 0 (cellWith 255 0 0 1 1) 1 ≡ oneDraw (cellWith 255 0 0 2 0) 1)
       × ((σ : ℕ) → yielded (nextState σ) % 2 ≡ 0 → doubled 0 (cellWith 255 0 0 1 1) σ ≡ oneDraw (cellWith 128 0 0 3 0) σ)
+  -- beside the nine, a shutter that is closed by an even draw: its unit is the ended sub-window's, and the cell zooms in
+  pub closing : crossed 1 1 (cellWith 0 0 0 1 1) 2 ≡ record { bytes = cellWith 2 0 0 0 0; state = 67108866; draws = 1 }
