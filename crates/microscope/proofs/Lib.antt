@@ -16,3 +16,4 @@ pub mod WorldLaws
 pub mod RecordingCases
 pub mod RecordingLoop
 pub mod CrossingPass
+pub mod FigureBounds
