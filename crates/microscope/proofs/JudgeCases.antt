@@ -10,6 +10,7 @@ use Rattle.refusal.specs.declared.Verdict.{Verdict}
 use Rattle.refusal.specs.declared.Verdict.the-variants.{Accepted, Refused}
 use Rattle.refusal.specs.Refusals.{isAccepted, refuse, outside, whenAccepted}
 use Rattle.refusal.proofs.VerdictLaws.{refused-leaves, turned-back, let-pass}
+use Rattle.refusal.proofs.GateLaws.{gate-open, gate-shut}
 use Rattle.cell.specs.declared.MicroParams.{MicroParams}
 use Rattle.cell.specs.Cell.{depthOf}
 use Rattle.cell.specs.Refusals.{paramsVerdict, refuseParams}
@@ -19,6 +20,7 @@ use Rattle.clock.specs.Refusals.{lengthVerdict, refuseLength}
 use Rattle.microscope.specs.declared.MicroCm.{MicroCm}
 use Rattle.microscope.specs.Sketch.{gridBytes}
 use Rattle.microscope.specs.Refusals.{gridFits, refuseSettings, sketchVerdict}
+use Rattle.microscope.proofs.SketchGates.{settingsOf, settings-gate}
 use Rattle.microscope.proofs.SettingsLaws.{GoodSettings, good-settings}
 use Rattle.microscope.proofs.AddressLaws.{product-le}
 
@@ -62,24 +64,12 @@ module _ (rows cols : ℕ) (p : MicroParams) (clock : SubWindowClock) (cells : V
 
 -- A SKETCH with its grid
 module _ (k : MicroCm) (g : List ℕ) (judged : Verdict) (ej : judged ≡ refuseSettings (k .rows) (k .cols) (k .params) (k .clock) Accepted) (ok : Bool) (asked : ok ≡ isAccepted judged) where
-  settings-then : (rest : Verdict) → refuseSettings (k .rows) (k .cols) (k .params) (k .clock) rest
-      ≡ whenAccepted (refuseSettings (k .rows) (k .cols) (k .params) (k .clock) Accepted) rest (refuseSettings (k .rows) (k .cols) (k .params) (k .clock) Accepted)
-  settings-then rest = by (outside 1 4096 (k .params .t)) (outside 2 256 (k .params .c)) (outside 1 (2 ^ 53) (lengthOf (k .clock))) (not (gridFits (k .rows) (k .cols)))
-    where
-      by : (a b c d : Bool) → refuse 1 a (refuse 2 b (refuse 3 c (refuse 4 d rest)))
-          ≡ whenAccepted (refuse 1 a (refuse 2 b (refuse 3 c (refuse 4 d Accepted)))) rest (refuse 1 a (refuse 2 b (refuse 3 c (refuse 4 d Accepted))))
-      by true b c d = refl
-      by false true c d = refl
-      by false false true d = refl
-      by false false false true = refl
-      by false false false false = refl
-
   pub settings-refused : not ok ≡ true → judged ≡ sketchVerdict k g
-  settings-refused n = sym (settings-then _ ∙ rw (← ej) (refused-leaves judged _ judged (turned-back judged ok asked n)))
+  settings-refused n = sym (gate-shut (settingsOf k) (settings-gate k) _ judged ej (turned-back judged ok asked n))
 
   module _ (a : not ok ≡ false) where
     past-settings : (rest : Verdict) → refuseSettings (k .rows) (k .cols) (k .params) (k .clock) rest ≡ rest
-    past-settings rest = settings-then rest ∙ rw (← ej, let-pass judged ok asked a) refl
+    past-settings rest = gate-open (settingsOf k) (settings-gate k) rest (sym ej ∙ let-pass judged ok asked a)
 
     good : GoodSettings (k .rows) (k .cols) (k .params) (k .clock)
     good = good-settings (k .rows) (k .cols) (k .params) (k .clock) (sym ej ∙ let-pass judged ok asked a)

@@ -1,24 +1,17 @@
 -- What the workers rely on. The public calls have judged it; no public contract cites this file.
-use Prim.Native.Nat.{ℕ, _+_, _*_, _^_, _≤_, _<_}
+use Prim.Native.Nat.{ℕ, _^_, _≤_}
 use mathlib.Core.Path.{_≡_}
 use mathlib.Core.Bool.{true}
 use mathlib.Core.List.{List}
-use lib.Ieee.{Float, binary64, add, mul}
-use lib.ListN.{length, getD}
+use lib.ListN.{length}
 use Rattle.laws.specs.Steps.{Step}
-use Rattle.laws.specs.Figure.{figure}
 use Rattle.refusal.specs.declared.Verdict.the-variants.{Accepted, Unsound}
-use Rattle.laws.specs.Parts.{part}
-use Rattle.cell.specs.Cell.{depthOf, unitOf, soundOf}
-use Rattle.cell.specs.Crossing.{crossOf}
-use Rattle.cell.specs.Workers.{Fit}
+use Rattle.cell.specs.Cell.{unitOf}
 use Rattle.clock.specs.Clock.{lengthOf}
 use Rattle.microscope.specs.declared.MicroCm.{MicroCm}
-use Rattle.microscope.specs.declared.Exact.{Exact}
-use Rattle.microscope.specs.declared.Estimate.{Estimate}
 use Rattle.microscope.specs.declared.Passed.{Passed}
 use Rattle.microscope.specs.Sketch.{gridBytes, cellOf, keyCells}
-use Rattle.microscope.specs.Figures.{keyCell, overOf, underOf, readingOf}
+use Rattle.microscope.specs.Figures.{keyCell}
 use Rattle.microscope.specs.Refusals.{keyFits}
 use Rattle.microscope.specs.Audit.{firstUnsound}
 
@@ -50,48 +43,6 @@ pub record Readable (k : MicroCm) (key g : List ℕ) : Type 0 where
 abbrev pub rowUnit : MicroCm → List ℕ → List ℕ → ℕ → ℕ
 rowUnit k g key row = unitOf (k .params .t) (k .params .c) (cellOf k g (keyCell k key row))
 
--- the units of the key's cells, in the first places of a list
-abbrev pub Units : MicroCm → List ℕ → List ℕ → ℕ → List ℕ → Type 0
-Units k g key rows units = (row : ℕ) → row < rows → getD units row 0 ≡ rowUnit k g key row
-
--- a whole number n beside its f64
-abbrev pub exactly : ℕ → Exact
-exactly n = record { whole = n; value = figure n }
-
--- all figures of a key
-abbrev pub estimateOf : MicroCm → List ℕ → List ℕ → Float → Estimate
-estimateOf k g key fraction = record { reading = readingOf k g key fraction; over = overOf k g key; under = underOf k g key }
-
--- below n = t the three figures are one
-abbrev pub youngEstimate : Exact → Float → Estimate
-youngEstimate u fraction =
-    record { reading = record { over = u .value; under = u .value; linear = u .value; fraction = fraction }; over = u .whole; under = u .whole }
-
--- Under, and the oldest term beside it
-abbrev pub agedEstimate : ℕ → ℕ → Float → Estimate
-agedEstimate under oldest fraction =
-    record {
-      reading = record {
-        over = figure (under + oldest);
-        under = figure under;
-        linear = add binary64 (figure under) (mul binary64 fraction (figure oldest));
-        fraction = fraction;
-      };
-      over = under + oldest;
-      under = under;
-    }
-
 -- the grid that a pass leaves, with what it returned beside it
 abbrev pub passOf : List ℕ → Passed → Step
 passOf g r = record { bytes = g; state = r .state; draws = r .draws }
-
--- so many cells that were judged, and room for them
-pub record Crossable (t c count : ℕ) (g : List ℕ) : Type 0 where
-  pub fit : Fit t c (depthOf t)
-  pub few : count ≤ 2 ^ 23
-  pub room : count * depthOf t ≤ length g
-  pub sound : (i : ℕ) → i < count → soundOf t c (part (i * depthOf t) (depthOf t) g) ≡ true
-
--- a cell crosses, whatever its index
-abbrev pub crossPiece : ℕ → ℕ → ℕ → ℕ → ℕ → List ℕ → ℕ → Step
-crossPiece t c n crossed j b σ = crossOf t c n crossed b σ

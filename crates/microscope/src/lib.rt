@@ -2,10 +2,8 @@
 //
 // The grid is lent by the caller: rows * cols cells of `depth` bytes, by row, then column. A key is lent too: one column
 // for each row.
-pub mod figures;
 pub mod grid;
 pub mod judge;
-pub mod recording;
 
 use cell::MicroParams;
 use clock::SubWindowClock;
@@ -66,19 +64,6 @@ pub enum Audit {
 pub struct AuditAnswer {
     pub verdict: Verdict,
     pub audit: Audit,
-}
-
-// A whole number below 2^53 and the same number as f64.
-pub struct Exact {
-    pub whole: u64,
-    pub value: f64,
-}
-
-// A reading beside the same figures as whole numbers.
-pub struct Estimate {
-    pub reading: Reading,
-    pub over: u64,
-    pub under: u64,
 }
 
 // What a pass over cells returns: the random state after it, and how many draws it made.

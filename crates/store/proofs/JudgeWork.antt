@@ -25,7 +25,8 @@ use Rattle.store.specs.Store.{storeLength, blocksPass, allZero}
 use Rattle.store.specs.Refusals.{lengthVerdict, refuseBlocks, carried, gridIn, gridVerdict}
 use Rattle.store.specs.Workers.{Sized, Stored}
 use Rattle.store.proofs.FillLaws.{part-take}
-use Rattle.store.proofs.GateLaws.{settingsOf, settings-gate, gate-open, gate-shut}
+use Rattle.refusal.proofs.GateLaws.{gate-open, gate-shut}
+use Rattle.microscope.proofs.SketchGates.{settingsOf, settings-gate}
 use Rattle.store.proofs.SettingsLaws.{settings-good, cells-limit, grid-limit}
 
 -- THE SETTINGS, 1 to 5

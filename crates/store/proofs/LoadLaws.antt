@@ -13,7 +13,7 @@ use Rattle.microscope.specs.Sketch.{gridBytes, allCells}
 use Rattle.microscope.specs.Refusals.{refuseUnsound}
 use Rattle.store.specs.Store.{storeLength, blocksPass, sketchIn, allZero}
 use Rattle.store.specs.Refusals.{lengthVerdict, wrongForm, headerVerdict, headerPayload, carried, gridIn, gridVerdict, loadVerdict}
-use Rattle.store.proofs.GateLaws.{both-accepted}
+use Rattle.refusal.proofs.GateLaws.{both-accepted}
 
 -- what a store holds: a sketch, and its grid
 abbrev pub sketchOf : List ℕ → MicroCm

@@ -24,7 +24,8 @@ use Rattle.store.specs.Store.{sketchIn}
 use Rattle.store.specs.Refusals.{lengthVerdict, refuseBlocks, wrongForm, headerVerdict, headerIn, headerNumber, headerPayload, carried, gridVerdict, loadVerdict, loadAnswer, loadOutcome, loadCall}
 use Rattle.store.proofs.FillLaws.{part-take}
 use Rattle.store.proofs.HeaderLaws.{neither}
-use Rattle.store.proofs.GateLaws.{gate-open, gate-shut, blocks-gate}
+use Rattle.refusal.proofs.GateLaws.{gate-open, gate-shut}
+use Rattle.store.proofs.GateLaws.{blocks-gate}
 use Rattle.store.proofs.LoadLaws.{sketchOf, gridOf, Kept, grid-kept, Loadable, accepted-loadable}
 
 -- THE HEADER'S ANSWER

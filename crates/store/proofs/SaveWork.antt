@@ -20,7 +20,8 @@ use Rattle.store.specs.Store.{blockOf, headerOf, blocksFrom, gridBlocks,
 use Rattle.store.specs.Refusals.{lengthVerdict, lengthCall, refuseLength, saveVerdict, saveOutcome, saveCall}
 use Rattle.store.specs.Workers.{Sized}
 use Rattle.store.proofs.BlockLaws.{block-length}
-use Rattle.store.proofs.GateLaws.{gate-open, gate-shut, gate-passed, judged, judged-gate, sketch-gate, unsound-gate}
+use Rattle.refusal.proofs.GateLaws.{gate-open, gate-shut, gate-passed}
+use Rattle.microscope.proofs.SketchGates.{judged, judged-gate, sketch-gate, unsound-gate}
 use Rattle.store.proofs.SettingsLaws.{settings-good}
 
 -- THE EXACT LENGTH

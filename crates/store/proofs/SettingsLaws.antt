@@ -13,7 +13,8 @@ use Rattle.microscope.proofs.SettingsLaws.{GoodSettings, good-settings}
 use Rattle.store.specs.Refusals.{lengthVerdict}
 use Rattle.store.specs.Store.{epochOf, readingOf, gridBlocks}
 use Rattle.store.proofs.HeaderLaws.{Fits}
-use Rattle.store.proofs.GateLaws.{settingsOf, settings-gate, gate-passed}
+use Rattle.refusal.proofs.GateLaws.{gate-passed}
+use Rattle.microscope.proofs.SketchGates.{settingsOf, settings-gate}
 
 -- what the code's words hold beside the settings
 pub record Ranged (k : MicroCm) : Type 0 where

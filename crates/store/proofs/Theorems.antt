@@ -22,7 +22,8 @@ use Rattle.store.proofs.BlockLaws.{block-same, block-back}
 use Rattle.store.proofs.BlocksLaws.{pass-suc, blocks-changed, blocks-back, from-alike}
 use Rattle.store.proofs.BlocksLoops.{carried-length}
 use Rattle.store.proofs.HeaderLaws.{header-form, header-sketch, header-back}
-use Rattle.store.proofs.GateLaws.{gate-passed, gate-open, judged, judged-gate, unsound-gate}
+use Rattle.refusal.proofs.GateLaws.{gate-passed, gate-open}
+use Rattle.microscope.proofs.SketchGates.{judged, judged-gate, unsound-gate}
 use Rattle.store.proofs.SettingsLaws.{Ranged, settings-fit, blocks-few}
 use Rattle.store.proofs.StoreLaws.{store-length, store-header, store-carries, store-passes}
 use Rattle.store.proofs.LoadLaws.{sketchOf, gridOf, Loadable, accepted-loadable, loadable-accepted}

@@ -1,0 +1,2 @@
+// Document 01, "Sketch and grid": the calls that count.
+pub mod recording;

@@ -1,0 +1,108 @@
+// Document 01, "Sketch and grid": an item goes into the key's cell of each row, in order, all drawing from one random
+// state; and every cell crosses, in grid order. Callers have judged the sketch and the cells.
+use cell::Drawn;
+use microscope::MicroCm;
+use microscope::Passed;
+use microscope::grid;
+ghost use mathlib.Core.Path.{_≡_};
+ghost use mathlib.Core.Bool.{true};
+ghost use Prim.Native.Nat.{_+_, _*_, _≤_, _<_};
+ghost use lib.ListN.{length};
+ghost use Rattle.laws.specs.Passes.{eachOf};
+ghost use Rattle.cell.specs.Cell.{depthOf, soundOf};
+ghost use Rattle.cell.specs.Workers.{stepOf};
+ghost use Rattle.microscope.specs.Sketch.{cellsOf, cellOf, keyCells, allCells, insertAt, insertEach, crossEach};
+ghost use Rattle.microscope.specs.Workers.{Ready, Judged, Readable, passOf};
+ghost use Rattle.counting.specs.Workers.{Crossable, crossPiece};
+
+fn insert_at(sketch: MicroCm, grid: &mut [u8], index: usize, n: u64, state: u64) -> Drawn
+    requires { ⌜ Ready sketch (length (now grid)) × (index < cellsOf sketch) ⌝ }
+    requires { ⌜ soundOf (sketch .params .t) (sketch .params .c) (cellOf sketch (now grid) index) ≡ true ⌝ }
+    ensures { λ r. ⌜ stepOf (now (grid .exit)) r ≡ insertAt sketch n index (now (grid .entry)) state ⌝ }
+    ensures { λ r. ⌜ r .draws ≤ 4098 ⌝ }
+{
+    let params = sketch.params;
+    let t = params.t;
+    let start = grid::start_of(sketch, grid.len(), index);
+    let end = start + cell::layout::depth(t);
+    cell::insertion::insert(&mut grid[start..end], t, params.c, n, state)
+}
+
+// The key's cell of each row, in order.
+pub fn insert_each(sketch: MicroCm, key: &[u32], grid: &mut [u8], n: u64, state: u64) -> Passed
+    requires { ⌜ Readable sketch (now key) (now grid) ⌝ }
+    ensures { λ r. ⌜ passOf (now (grid .exit)) r ≡ insertEach sketch n (keyCells sketch 0 (now (key .entry))) (now (grid .entry)) state ⌝ }
+    ensures { λ r. ⌜ r .draws ≤ 128 * 4098 ⌝ }
+{
+    let mut after = state;
+    let mut draws: u64 = 0;
+    let mut row: usize = 0;
+    while row < key.len() {
+        let drawn = insert_at(sketch, grid, grid::key_cell(sketch, key, row), n, after);
+        after = drawn.state;
+        draws = draws + drawn.draws as u64;
+        row += 1;
+    }
+    Passed {
+        state: after,
+        draws,
+    }
+}
+
+// So many cells, one after another.
+fn cross_cells(
+    grid: &mut [u8],
+    t: usize,
+    c: u32,
+    count: usize,
+    n: u64,
+    crossed: u64,
+    state: u64,
+) -> Passed
+    requires { ⌜ Crossable t c count (now grid) × (crossed ≤ n) ⌝ }
+    ensures { λ r. ⌜ passOf (now (grid .exit)) r ≡ eachOf (crossPiece t c n crossed) (depthOf t) 0 count (now (grid .entry)) state ⌝ }
+    ensures { λ r. ⌜ r .draws ≤ count * 4099 ⌝ }
+{
+    let depth = cell::layout::depth(t);
+    let mut after = state;
+    let mut draws: u64 = 0;
+    let mut start: usize = 0;
+    let mut index: usize = 0;
+    while index < count {
+        let end = start + depth;
+        let drawn = cell::crossing::enter_sub_window(
+            &mut grid[start..end],
+            t,
+            c,
+            n,
+            crossed,
+            after,
+        );
+        after = drawn.state;
+        draws = draws + drawn.draws as u64;
+        start = end;
+        index += 1;
+    }
+    Passed {
+        state: after,
+        draws,
+    }
+}
+
+// Every cell, in grid order.
+pub fn cross_each(sketch: MicroCm, grid: &mut [u8], n: u64, crossed: u64, state: u64) -> Passed
+    requires { ⌜ Ready sketch (length (now grid)) × Judged sketch (now grid) (allCells sketch) × (crossed ≤ n) ⌝ }
+    ensures { λ r. ⌜ passOf (now (grid .exit)) r ≡ crossEach sketch n crossed (now (grid .entry)) state ⌝ }
+    ensures { λ r. ⌜ r .draws ≤ cellsOf sketch * 4099 ⌝ }
+{
+    let params = sketch.params;
+    cross_cells(
+        grid,
+        params.t,
+        params.c,
+        sketch.rows * sketch.cols,
+        n,
+        crossed,
+        state,
+    )
+}

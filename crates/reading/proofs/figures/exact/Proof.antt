@@ -1,0 +1,14 @@
+-- `exact`: a whole number up to 2 ^ 53 is its f64. Assumes nothing.
+use Rattle.laws.proofs.FigureLaws.{castable}
+use borrow.Author.Needs.{needs}
+use Rattle.reading.proofs.figures.exact.Statement.{statement}
+use Rattle.reading.proofs.figures.exact.Tie as tie
+
+int-to-float-t2 : tie.Need-int-to-float-t2
+int-to-float-t2 c = castable _ (search needs)
+
+returns : tie.Need-returns
+returns c = search needs
+
+pub exact-spec : {M : Type 1} → statement M
+exact-spec = tie.close (tie.spec int-to-float-t2 returns)
