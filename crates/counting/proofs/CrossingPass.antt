@@ -1,6 +1,6 @@
 -- Every cell crosses in place, from the front: a pass over equal pieces, each of which was judged before the pass began. Assumes nothing.
 use Prim.Native.Nat.{ℕ, _+_, _-_, _^_, _≤_, _<_}
-use mathlib.Core.Path.{_≡_, refl}
+use mathlib.Core.Path.{_≡_}
 use mathlib.Core.Bool.{true}
 use mathlib.Core.List.{List}
 use native.Mathlib.Omega.{arith}
@@ -11,13 +11,11 @@ use Rattle.cell.specs.Cell.{depthOf, soundOf}
 use Rattle.cell.specs.Workers.{Fit}
 use Rattle.microscope.specs.declared.MicroCm.{MicroCm}
 use Rattle.microscope.specs.declared.Passed.{Passed}
-use Rattle.microscope.specs.Sketch.{cellsOf, allCells, crossEach}
-use Rattle.microscope.specs.Workers.{Ready, Judged, passOf}
-use Rattle.counting.specs.Workers.{Crossable, crossPiece}
-use Rattle.microscope.proofs.AddressLaws.{cells-few}
-use Rattle.microscope.proofs.JudgedLaws.{judged-all}
+use Rattle.microscope.specs.Sketch.{cellsOf, crossEach}
+use Rattle.microscope.specs.Workers.{SoundCells, passOf}
+use Rattle.counting.specs.Workers.{crossPiece}
 
-module _ (t c n crossed count : ℕ) (g₀ : List ℕ) (σ₀ : ℕ) (ok : Crossable t c count g₀) (g : List ℕ) (σ drawn a i : ℕ)
+module _ (t c n crossed count : ℕ) (g₀ : List ℕ) (σ₀ : ℕ) (ok : SoundCells t c count g₀) (g : List ℕ) (σ drawn a i : ℕ)
     (w : Going (crossPiece t c n crossed) (depthOf t) 4099 count g₀ σ₀ g σ drawn a i) (more : i < count) where
   module _ (d : ℕ) (ed : d ≡ depthOf t) where
     pub piece-sound : soundOf t c (take (a + d - a) (drop a g)) ≡ true
@@ -34,15 +32,6 @@ module _ (t c n crossed count : ℕ) (g₀ : List ℕ) (σ₀ : ℕ) (ok : Cross
 
 pub few-each : (t k : ℕ) → t ≤ 4096 → k ≤ t + 3 → k ≤ 4099
 few-each t k h l = omega arith
-
-pub crossable : (k : MicroCm) (g : List ℕ) → Ready k (length g) → Judged k g (allCells k) → Crossable (k .params .t) (k .params .c) (cellsOf k) g
-crossable k g r w =
-    record {
-      fit = record { t-low = r .t-low; t-high = r .t-high; c-low = r .c-low; c-high = r .c-high; size-is = refl };
-      few = cells-few k (length g) r;
-      room = omega (arith, r .size-is);
-      sound = λ i h. judged-all k g i w h;
-    }
 
 pub crossed-all : (k : MicroCm) (n crossed : ℕ) (g l : List ℕ) (σ : ℕ) (r : Passed)
     → passOf l r ≡ eachOf (crossPiece (k .params .t) (k .params .c) n crossed) (depthOf (k .params .t)) 0 (cellsOf k) g σ → passOf l r ≡ crossEach k n crossed g σ

@@ -12,8 +12,8 @@ ghost use Rattle.laws.specs.Passes.{eachOf};
 ghost use Rattle.cell.specs.Cell.{depthOf, soundOf};
 ghost use Rattle.cell.specs.Workers.{stepOf};
 ghost use Rattle.microscope.specs.Sketch.{cellsOf, cellOf, keyCells, allCells, insertAt, insertEach, crossEach};
-ghost use Rattle.microscope.specs.Workers.{Ready, Judged, Readable, passOf};
-ghost use Rattle.counting.specs.Workers.{Crossable, crossPiece};
+ghost use Rattle.microscope.specs.Workers.{Ready, Judged, Readable, SoundCells, passOf};
+ghost use Rattle.counting.specs.Workers.{crossPiece};
 
 fn insert_at(sketch: MicroCm, grid: &mut [u8], index: usize, n: u64, state: u64) -> Drawn
     requires { ⌜ Ready sketch (length (now grid)) × (index < cellsOf sketch) ⌝ }
@@ -59,7 +59,7 @@ fn cross_cells(
     crossed: u64,
     state: u64,
 ) -> Passed
-    requires { ⌜ Crossable t c count (now grid) × (crossed ≤ n) ⌝ }
+    requires { ⌜ SoundCells t c count (now grid) × (crossed ≤ n) ⌝ }
     ensures { λ r. ⌜ passOf (now (grid .exit)) r ≡ eachOf (crossPiece t c n crossed) (depthOf t) 0 count (now (grid .entry)) state ⌝ }
     ensures { λ r. ⌜ r .draws ≤ count * 4099 ⌝ }
 {

@@ -12,7 +12,8 @@ use Rattle.cell.specs.Cell.{soundOf}
 use Rattle.microscope.specs.declared.MicroCm.{MicroCm}
 use Rattle.microscope.specs.Sketch.{cellsOf, cellOf, cellIndex, keyCells, countFrom, allCells}
 use Rattle.microscope.specs.Audit.{firstUnsound}
-use Rattle.microscope.specs.Workers.{Judged}
+use Rattle.microscope.specs.Workers.{Ready, Judged, SoundCells}
+use Rattle.microscope.proofs.AddressLaws.{cells-few}
 
 never : (j : ℕ) → Unsound j ≡ Accepted → ⊥
 never j e = let z : _≡_ {A = ℕ} 0 1 = cc in omega arith
@@ -53,3 +54,13 @@ module _ (k : MicroCm) (g : List ℕ) where
 
   pub judged-all : (j : ℕ) → Judged k g (allCells k) → j < cellsOf k → soundAt j ≡ true
   judged-all j w h = rw zero-add at (judged-count (cellsOf k) 0 j w h)
+
+-- every cell of a grid, as a pass over it takes them
+pub sound-cells : (k : MicroCm) (g : List ℕ) → Ready k (length g) → Judged k g (allCells k) → SoundCells (k .params .t) (k .params .c) (cellsOf k) g
+sound-cells k g r w =
+    record {
+      fit = record { t-low = r .t-low; t-high = r .t-high; c-low = r .c-low; c-high = r .c-high; size-is = refl };
+      few = cells-few k (length g) r;
+      room = omega (arith, r .size-is);
+      sound = λ i h. judged-all k g i w h;
+    }

@@ -1,12 +1,14 @@
 -- What the workers rely on. The public calls have judged it; no public contract cites this file.
-use Prim.Native.Nat.{ℕ, _^_, _≤_}
+use Prim.Native.Nat.{ℕ, _*_, _^_, _≤_, _<_}
 use mathlib.Core.Path.{_≡_}
 use mathlib.Core.Bool.{true}
 use mathlib.Core.List.{List}
 use lib.ListN.{length}
 use Rattle.laws.specs.Steps.{Step}
+use Rattle.laws.specs.Parts.{part}
 use Rattle.refusal.specs.declared.Verdict.the-variants.{Accepted, Unsound}
-use Rattle.cell.specs.Cell.{unitOf}
+use Rattle.cell.specs.Cell.{depthOf, unitOf, soundOf}
+use Rattle.cell.specs.Workers.{Fit}
 use Rattle.clock.specs.Clock.{lengthOf}
 use Rattle.microscope.specs.declared.MicroCm.{MicroCm}
 use Rattle.microscope.specs.declared.Passed.{Passed}
@@ -46,3 +48,10 @@ rowUnit k g key row = unitOf (k .params .t) (k .params .c) (cellOf k g (keyCell 
 -- the grid that a pass leaves, with what it returned beside it
 abbrev pub passOf : List ℕ → Passed → Step
 passOf g r = record { bytes = g; state = r .state; draws = r .draws }
+
+-- so many cells that were judged, and room for them
+pub record SoundCells (t c count : ℕ) (g : List ℕ) : Type 0 where
+  pub fit : Fit t c (depthOf t)
+  pub few : count ≤ 2 ^ 23
+  pub room : count * depthOf t ≤ length g
+  pub sound : (i : ℕ) → i < count → soundOf t c (part (i * depthOf t) (depthOf t) g) ≡ true

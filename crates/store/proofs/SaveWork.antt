@@ -7,11 +7,11 @@ use lib.Dec.{eqb}
 use lib.ListN.{length, take, drop, length-append, length-drop, drop-of-length-le}
 use lib.Seq.{take-all, take-at, drop-at}
 use native.Mathlib.Omega.{arith}
-use borrow.Author.Tests.{eq-eqb, ne-eqb, eqb-true, not-false}
+use borrow.Author.Tests.{eq-eqb, ne-eqb}
 use Rattle.refusal.specs.declared.Verdict.{Verdict}
 use Rattle.refusal.specs.declared.Verdict.the-variants.{Accepted, Refused}
 use Rattle.refusal.specs.Refusals.{isAccepted}
-use Rattle.refusal.proofs.VerdictLaws.{refused-leaves, turned-back, let-pass, not-refused}
+use Rattle.refusal.proofs.VerdictLaws.{refused-leaves, turned-back, let-pass}
 use Rattle.microscope.specs.declared.MicroCm.{MicroCm}
 use Rattle.microscope.specs.Sketch.{gridBytes, allCells}
 use Rattle.microscope.specs.Refusals.{refuseGrid, refuseSketch, refuseUnsound, sketchVerdict}
@@ -21,8 +21,8 @@ use Rattle.store.specs.Refusals.{lengthVerdict, lengthCall, refuseLength
 use Rattle.store.specs.Workers.{Sized}
 use Rattle.store.proofs.BlockLaws.{block-length}
 use Rattle.refusal.proofs.GateLaws.{gate-open, gate-shut, gate-passed}
+use Rattle.microscope.proofs.ReadyLaws.{ready-of}
 use Rattle.microscope.proofs.SketchGates.{judged, judged-gate, sketch-gate, unsound-gate}
-use Rattle.store.proofs.SettingsLaws.{settings-good}
 
 -- THE EXACT LENGTH
 module _ (k : MicroCm) (v : Verdict) (ok : Bool) (ev : v ≡ lengthVerdict k) (asked : ok ≡ isAccepted v) where
@@ -66,31 +66,14 @@ module _ (k : MicroCm) (g store : List ℕ) where
     save-refused h = unsaved v (turned-back v ok asked h) (gate-shut (refuseSketch k g) (sketch-gate k g) (refuseUnsound k g (allCells k) (refuseLength k store Accepted)) v ev (turned-back v ok asked h))
 
     module _ (h : not ok ≡ false) where
-      passed : (lengthVerdict k ≡ Accepted) × (refuseGrid k g Accepted ≡ Accepted)
-      passed = gate-passed (judged k) (judged-gate k) (refuseGrid k g Accepted) (sym ev ∙ let-pass v ok asked h)
-
       pub save-good : lengthVerdict k ≡ Accepted
-      save-good = passed .0
-
-      pub save-room : length g ≡ gridBytes k
-      save-room = eqb-true _ _ (not-false _ (not-refused 6 (not (eqb (length g) (gridBytes k))) Accepted (passed .1) .0))
+      save-good = gate-passed (judged k) (judged-gate k) (refuseGrid k g Accepted) (sym ev ∙ let-pass v ok asked h) .0
 
       pub save-ready : Ready k (length g)
-      save-ready =
-          let s = settings-good k save-good in
-          record {
-            t-low = s .t-low;
-            t-high = s .t-high;
-            c-low = s .c-low;
-            c-high = s .c-high;
-            length-low = s .length-low;
-            length-high = s .length-high;
-            rows-low = s .grid .rows-low;
-            rows-high = s .grid .rows-high;
-            cols-low = s .grid .cols-low;
-            cols-high = s .grid .cols-high;
-            size-is = save-room;
-          }
+      save-ready = ready-of k g (sym ev ∙ let-pass v ok asked h)
+
+      pub save-room : length g ≡ gridBytes k
+      save-room = save-ready .size-is
 
       past : (rest : Verdict) → refuseSketch k g rest ≡ rest
       past rest = gate-open (refuseSketch k g) (sketch-gate k g) rest (sym ev ∙ let-pass v ok asked h)

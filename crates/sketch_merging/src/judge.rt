@@ -1,0 +1,82 @@
+// Document 01, "Turning a call back": the verdict of a merge, lowest number first. Nothing is written here.
+use microscope::MicroCm;
+use refusal::Verdict;
+ghost use mathlib.Core.Path.{_≡_};
+ghost use Rattle.refusal.specs.declared.Verdict.the-variants.{Accepted};
+ghost use Rattle.clock.specs.Clock.{GoodLength};
+ghost use Rattle.microscope.specs.Refusals.{lowerOf, sameShape, mergeVerdict};
+ghost use Rattle.sketch_merging.specs.Workers.{refusePair};
+
+// Of two verdicts the one that turns the call back, and by the lower number if both do.
+fn lower(first: Verdict, second: Verdict) -> Verdict
+    ensures { λ r. ⌜ r ≡ lowerOf first second ⌝ }
+{
+    if first.accepted() {
+        return second;
+    }
+    if second.accepted() {
+        return first;
+    }
+    if first.number() <= second.number() {
+        return first;
+    }
+    second
+}
+
+fn same_shape(sketch: MicroCm, other: MicroCm) -> bool
+    ensures { λ r. ⌜ r ≡ sameShape sketch other ⌝ }
+{
+    let params = sketch.params;
+    let others = other.params;
+    if sketch.rows != other.rows {
+        return false;
+    }
+    if sketch.cols != other.cols {
+        return false;
+    }
+    if params.t != others.t {
+        return false;
+    }
+    params.c == others.c
+}
+
+// 10 to 12.
+fn pair(sketch: MicroCm, other: MicroCm) -> Verdict
+    requires { ⌜ GoodLength (sketch .clock) × GoodLength (other .clock) ⌝ }
+    ensures { λ r. ⌜ r ≡ refusePair sketch other Accepted ⌝ }
+{
+    if !same_shape(sketch, other) {
+        return Verdict::Refused(10);
+    }
+    let clock = sketch.clock;
+    let others = other.clock;
+    if !clock.same_frame(others) {
+        return Verdict::Refused(11);
+    }
+    if clock::worker::sub_window(clock) != clock::worker::sub_window(others) {
+        return Verdict::Refused(12);
+    }
+    Verdict::Accepted
+}
+
+// The receiving grid is searched first.
+pub fn merge(sketch: MicroCm, grid: &[u8], other: MicroCm, other_grid: &[u8]) -> Verdict
+    ensures { λ r. ⌜ r ≡ mergeVerdict sketch (now (grid .entry)) other (now («other_grid» .entry)) ⌝ }
+{
+    let settings = lower(
+        microscope::judge::sketch(sketch, grid),
+        microscope::judge::sketch(other, other_grid),
+    );
+    if !settings.accepted() {
+        return settings;
+    }
+    let paired = pair(sketch, other);
+    if !paired.accepted() {
+        return paired;
+    }
+    let received = microscope::judge::all_cells(sketch, grid);
+    if !received.accepted() {
+        return received;
+    }
+    microscope::judge::all_cells(other, other_grid)
+}
