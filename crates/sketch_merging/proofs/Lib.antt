@@ -1,0 +1,3 @@
+pub mod VerdictCases
+pub mod MergePass
+pub mod MergeCases

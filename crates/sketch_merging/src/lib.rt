@@ -21,6 +21,7 @@ pub fn merge(sketch: MicroCm, grid: &mut [u8], other: MicroCm, other_grid: &[u8]
             draws: 0,
         };
     }
+    let params = sketch.params;
     let clock = sketch.clock;
     let rounding = sketch.rounding;
     let n = clock::worker::sub_window(clock);
@@ -30,7 +31,7 @@ pub fn merge(sketch: MicroCm, grid: &mut [u8], other: MicroCm, other_grid: &[u8]
         sketch: MicroCm {
             rows: sketch.rows,
             cols: sketch.cols,
-            params: sketch.params,
+            params,
             clock,
             rounding: Rounding {
                 state: passed.state,

@@ -11,10 +11,11 @@ ghost use Rattle.microscope.specs.Merge.{mergeEach};
 ghost use Rattle.microscope.specs.Workers.{Ready, Judged, SoundCells, passOf};
 ghost use Rattle.sketch_merging.specs.Workers.{mergePiece};
 
-// So many cells, one after another. The array of sums is made once for all of them.
+// So many cells, one after another.
 fn merge_cells(
     grid: &mut [u8],
     other: &[u8],
+    work: &mut [u32],
     t: usize,
     c: u32,
     count: usize,
@@ -22,10 +23,10 @@ fn merge_cells(
     state: u64,
 ) -> Passed
     requires { ⌜ SoundCells t c count (now grid) × SoundCells t c count (now other) ⌝ }
+    requires { ⌜ length (now work) ≡ 4098 ⌝ }
     ensures { λ r. ⌜ passOf (now (grid .exit)) r ≡ eachOf (mergePiece t c n (now (other .entry))) (depthOf t) 0 count (now (grid .entry)) state ⌝ }
 {
     let depth = cell::layout::depth(t);
-    let mut work = [0u32; 4098];
     let mut after = state;
     let mut draws: u64 = 0;
     let mut start: usize = 0;
@@ -35,7 +36,7 @@ fn merge_cells(
         let drawn = cell::merge::merge_within(
             &mut grid[start..end],
             &other[start..end],
-            &mut work,
+            work,
             t,
             c,
             n,
@@ -52,16 +53,18 @@ fn merge_cells(
     }
 }
 
-// Every cell, in grid order.
+// Every cell, in grid order. The array of sums is made once for all of them.
 pub fn merge_each(sketch: MicroCm, grid: &mut [u8], other: &[u8], n: u64, state: u64) -> Passed
     requires { ⌜ Ready sketch (length (now grid)) × Judged sketch (now grid) (allCells sketch) ⌝ }
-    requires { ⌜ Ready sketch (length (now other)) × Judged sketch (now other) (allCells sketch) ⌝ }
+    requires { ⌜ SoundCells (sketch .params .t) (sketch .params .c) (cellsOf sketch) (now other) ⌝ }
     ensures { λ r. ⌜ passOf (now (grid .exit)) r ≡ mergeEach sketch n (now (other .entry)) (now (grid .entry)) state ⌝ }
 {
     let params = sketch.params;
+    let mut work = [0u32; 4098];
     merge_cells(
         grid,
         other,
+        &mut work,
         params.t,
         params.c,
         sketch.rows * sketch.cols,

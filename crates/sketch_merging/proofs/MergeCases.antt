@@ -1,0 +1,95 @@
+-- The two ways out of a merge: turned back, or the pass over all cells. Assumes nothing.
+use Prim.Native.Nat.{ℕ}
+use mathlib.Core.Path.{_≡_, refl, sym, ap, _∙_}
+use mathlib.Core.Bool.{Bool, true, false, not, _&&_, true≢false}
+use mathlib.Core.List.{List}
+use native.Mathlib.Nat.{zero-add}
+use lib.Dec.{eqb}
+use lib.ListN.{length}
+use borrow.Author.Tests.{eqb-true, not-false}
+use Rattle.refusal.specs.declared.Verdict.{Verdict}
+use Rattle.refusal.specs.declared.Verdict.the-variants.{Accepted}
+use Rattle.refusal.specs.Refusals.{isAccepted, refuse}
+use Rattle.refusal.proofs.VerdictLaws.{refused-leaves, turned-back, let-pass, not-refused}
+use Rattle.refusal.proofs.GateLaws.{both-accepted, gate-passed}
+use Rattle.clock.specs.Clock.{GoodLength, nOf, sameFrame}
+use Rattle.microscope.specs.declared.MicroCm.{MicroCm}
+use Rattle.microscope.specs.declared.Passed.{Passed}
+use Rattle.microscope.specs.Sketch.{World, cellsOf, allCells}
+use Rattle.microscope.specs.Merge.{mergeEach, merged}
+use Rattle.microscope.specs.Refusals.{refuseUnsound, sketchOutcome, world, sketchVerdict, lowerOf, sameShape, mergeVerdict, mergeCall}
+use Rattle.microscope.specs.Workers.{Ready, Judged, SoundCells, passOf}
+use Rattle.microscope.proofs.JudgedLaws.{sound-cells}
+use Rattle.microscope.proofs.ReadyLaws.{ready-of}
+use Rattle.microscope.proofs.SketchGates.{unsound-gate}
+use Rattle.sketch_merging.specs.Workers.{refusePair}
+use Rattle.sketch_merging.proofs.VerdictCases.{lower-both, pair-gate}
+
+-- a test of four parts holds in each
+all-four : (a b c d : Bool) → a && b && c && d ≡ true → (a ≡ true) × (b ≡ true) × (c ≡ true) × (d ≡ true)
+all-four true true true d e = (refl, refl, refl, e)
+all-four true true false d e = absurd (true≢false (sym e))
+all-four true false c d e = absurd (true≢false (sym e))
+all-four false b c d e = absurd (true≢false (sym e))
+
+-- the same shape is the same rows, cols, t and c
+shape-parts : (k k' : MicroCm) → sameShape k k' ≡ true → (k .rows ≡ k' .rows) × (k .cols ≡ k' .cols) × (k .params .t ≡ k' .params .t) × (k .params .c ≡ k' .params .c)
+shape-parts k k' e =
+    let p = all-four (eqb (k .rows) (k' .rows)) (eqb (k .cols) (k' .cols)) (eqb (k .params .t) (k' .params .t)) (eqb (k .params .c) (k' .params .c)) e in
+    (eqb-true _ _ (p .0), eqb-true _ _ (p .1), eqb-true _ _ (p .2), eqb-true _ _ (p .3))
+
+module _ (k : MicroCm) (g : List ℕ) (k' : MicroCm) (g' : List ℕ) (v : Verdict) (ev : v ≡ mergeVerdict k g k' g') (ok : Bool) (asked : ok ≡ isAccepted v) where
+  pub merge-refused : not ok ≡ true → sketchOutcome (record { verdict = v; sketch = k; draws = 0 }) g ≡ mergeCall k g k' g'
+  unfolding mergeCall
+  merge-refused h =
+      rw (← ev)
+      (ap (λ (w : World). sketchOutcome (record { verdict = v; sketch = w .sketch; draws = w .draws }) (w .grid))
+      (sym (refused-leaves v (merged g' (world k g)) (world k g) (turned-back v ok asked h))))
+
+  module _ (yes : not ok ≡ false) where
+    accepted : v ≡ Accepted
+    accepted = let-pass v ok asked yes
+
+    settled : (lowerOf (sketchVerdict k g) (sketchVerdict k' g') ≡ Accepted) × (refusePair k k' (refuseUnsound k g (allCells k) (refuseUnsound k' g' (allCells k') Accepted)) ≡ Accepted)
+    settled = both-accepted (lowerOf (sketchVerdict k g) (sketchVerdict k' g')) _ (sym ev ∙ accepted)
+
+    either : (sketchVerdict k g ≡ Accepted) × (sketchVerdict k' g' ≡ Accepted)
+    either = lower-both (sketchVerdict k g) (sketchVerdict k' g') (settled .0)
+
+    paired : (refusePair k k' Accepted ≡ Accepted) × (refuseUnsound k g (allCells k) (refuseUnsound k' g' (allCells k') Accepted) ≡ Accepted)
+    paired = gate-passed (refusePair k k') (pair-gate k k') _ (settled .1)
+
+    sounded : Judged k g (allCells k) × Judged k' g' (allCells k')
+    sounded = gate-passed (refuseUnsound k g (allCells k)) (unsound-gate k g (allCells k)) _ (paired .1)
+
+    alike : (k .rows ≡ k' .rows) × (k .cols ≡ k' .cols) × (k .params .t ≡ k' .params .t) × (k .params .c ≡ k' .params .c)
+    alike = shape-parts k k' (not-false _ (not-refused 10 (not (sameShape k k')) _ (paired .0) .0))
+
+    pub merge-ready : Ready k (length g)
+    merge-ready = ready-of k g (either .0)
+
+    pub merge-length : GoodLength (k .clock)
+    merge-length = record { some = merge-ready .length-low; short = merge-ready .length-high }
+
+    pub merge-judged : Judged k g (allCells k)
+    merge-judged = sounded .0
+
+    pub merge-other : SoundCells (k .params .t) (k .params .c) (cellsOf k) g'
+    merge-other =
+        let rows = alike .0 in
+        let cols = alike .1 in
+        let t = alike .2 in
+        let c = alike .3 in
+        rw (rows, cols, t, c) (sound-cells k' g' (ready-of k' g' (either .1)) (sounded .1))
+
+    pub merge-done : (n : ℕ) (r : Passed) (l : List ℕ) → n ≡ nOf (k .clock) → passOf l r ≡ mergeEach k n g' g (k .rounding .state)
+        → sketchOutcome
+        (record {
+          verdict = v;
+          sketch = record { rows = k .rows; cols = k .cols; params = k .params; clock = k .clock; rounding = record { state = r .state } };
+          draws = r .draws;
+        }) l ≡ mergeCall k g k' g'
+    unfolding mergeCall
+    merge-done n r l en e =
+        let e' : mergeEach k (nOf (k .clock)) g' g (k .rounding .state) ≡ passOf l r = rw (← en) (sym e) in
+        rw (← ev, accepted, e', zero-add) refl
