@@ -126,20 +126,29 @@ module _ (p : MicroParams) (b : List ℕ) (r : Held) (held : HeldOf p b 1 r) (ok
       items-exact = castable (r .unit * pixel) (omega (arith, items-short))
 
 -- CHANGING A CELL
-pub turned-outcome : (v : Verdict) (s : Step) (b : List ℕ) (ρ : Rounding) (a : CellAnswer) → isAccepted v ≡ false → a ≡ turnedBack v ρ → cellOutcome b a ≡ cellCall v s b (ρ .state)
+turned-outcome : (v : Verdict) (s : Step) (b : List ℕ) (ρ : Rounding) (a : CellAnswer) → isAccepted v ≡ false → a ≡ turnedBack v ρ → cellOutcome b a ≡ cellCall v s b (ρ .state)
 turned-outcome Accepted s b ρ a h e = absurd (true≢false h)
 turned-outcome (Refused k) s b ρ a h e = ap (cellOutcome b) e
 turned-outcome (Unsound j) s b ρ a h e = ap (cellOutcome b) e
 
-pub done-outcome : (v : Verdict) (s : Step) (b : List ℕ) (σ : ℕ) (l : List ℕ) (d : Drawn) (a : CellAnswer) → v ≡ Accepted → stepOf l d ≡ s → a ≡ doneWith d → cellOutcome l a ≡ cellCall v s b σ
+done-outcome : (v : Verdict) (s : Step) (b : List ℕ) (σ : ℕ) (l : List ℕ) (d : Drawn) (a : CellAnswer) → v ≡ Accepted → stepOf l d ≡ s → a ≡ doneWith d → cellOutcome l a ≡ cellCall v s b σ
 done-outcome v s b σ l d a h e q = rw (h, ← e) (ap (cellOutcome l) q)
+
+pub refused-never : (v : Verdict) → isAccepted v ≡ false → v ≡ Accepted → ⊥
+refused-never v e q = true≢false (sym (ap isAccepted q) ∙ e)
+
+-- a call with the verdict v, which is the definition's w
+module _ (v w : Verdict) (same : v ≡ w) (ok : Bool) (asked : ok ≡ isAccepted v) (s : Step) (b : List ℕ) (ρ : Rounding) (a : CellAnswer) where
+  pub call-turned : not ok ≡ true → a ≡ turnedBack v ρ → cellOutcome b a ≡ cellCall w s b (ρ .state)
+  call-turned h e = turned-outcome v s b ρ a (turned-back v ok asked h) e ∙ ap (λ (x : Verdict). cellCall x s b (ρ .state)) same
+
+  pub call-done : not ok ≡ false → (l : List ℕ) (d : Drawn) → stepOf l d ≡ s → a ≡ doneWith d → cellOutcome l a ≡ cellCall w s b (ρ .state)
+  call-done h l d e q = done-outcome w s b (ρ .state) l d a (sym same ∙ let-pass v ok asked h) e q
 
 module _ (p : MicroParams) (n : ℕ) (b : List ℕ) (ρ : Rounding) (r : Held) (held : HeldOf p b (ρ .state) r) (ok : Bool) (asked : ok ≡ isAccepted (r .verdict)) where
   pub insert-turned : not ok ≡ true → (a : CellAnswer) → a ≡ turnedBack (r .verdict) ρ → cellOutcome b a ≡ insertCall p n b (ρ .state)
   unfolding insertCall
-  insert-turned h a e =
-      turned-outcome (r .verdict) (insertOf (p .t) (p .c) n b (ρ .state)) b ρ a (turned-back (r .verdict) ok asked h) e
-      ∙ ap (λ (v : Verdict). cellCall v (insertOf (p .t) (p .c) n b (ρ .state)) b (ρ .state)) (held .verdict-is)
+  insert-turned h a e = call-turned (r .verdict) _ (held .verdict-is) ok asked (insertOf (p .t) (p .c) n b (ρ .state)) b ρ a h e
 
   module _ (h : not ok ≡ false) where
     pub insert-judged : Judged (p .t) (p .c) b (r .shutter) (r .unit)
@@ -147,5 +156,4 @@ module _ (p : MicroParams) (n : ℕ) (b : List ℕ) (ρ : Rounding) (r : Held) (
 
     pub insert-done : (l : List ℕ) (d : Drawn) (a : CellAnswer) → stepOf l d ≡ insertOf (p .t) (p .c) n b (ρ .state) → a ≡ doneWith d → cellOutcome l a ≡ insertCall p n b (ρ .state)
     unfolding insertCall
-    insert-done l d a e q =
-        done-outcome _ (insertOf (p .t) (p .c) n b (ρ .state)) b (ρ .state) l d a (sym (held .verdict-is) ∙ let-pass (r .verdict) ok asked h) e q
+    insert-done l d a e q = call-done (r .verdict) _ (held .verdict-is) ok asked (insertOf (p .t) (p .c) n b (ρ .state)) b ρ a h l d e q

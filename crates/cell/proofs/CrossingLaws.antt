@@ -23,7 +23,7 @@ use Rattle.cell.proofs.CellLaws.{Kept, kept-same, kept-then, slot-insid
 use Rattle.cell.proofs.PowerLaws.{max-zoom-limit}
 use Rattle.cell.proofs.SoundLaws.{sound-zoom, sound-empty}
 use Rattle.cell.proofs.InsertionLaws.{Credited, credited}
-use Rattle.cell.proofs.CrossingLoops.{most-cons, ceiling-fits}
+use Rattle.cell.proofs.AtMostLaws.{most-cons, ceiling-fits}
 use Rattle.cell.proofs.SumsLaws.{after-then}
 
 -- what a crossing leaves before it zooms in, and each stage up to there

@@ -12,12 +12,7 @@ pub mod JudgingLaws
 pub mod CallLaws
 pub mod TotalLaws
 pub mod HeldLaws
-pub mod CrossingLoops
-pub mod CrossingCases
+pub mod AtMostLaws
 pub mod SumsLaws
 pub mod CrossingLaws
-pub mod CrossingCalls
-pub mod MergeLoops
-pub mod MergeCases
 pub mod MergeLaws
-pub mod MergeCalls

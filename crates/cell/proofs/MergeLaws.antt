@@ -7,7 +7,7 @@ use mathlib.Core.List.{List}
 use lib.ListN.{length, getD, length-set}
 use lib.Seq.{length-take-le}
 use native.Mathlib.Omega.{arith}
-use native.Mathlib.Nat.{mod-lt, mul-comm, mul-add, mul-le-mul-left, pow-le-pow-right, lt-of-lt-of-le}
+use native.Mathlib.Nat.{mod-lt, mul-comm, mul-add, mul-le-mul-left, pow-le-pow-right, one-le-pow, lt-of-lt-of-le, div-lt-iff-lt-mul}
 use Rattle.laws.specs.Steps.{Step}
 use Rattle.rounding.specs.Draws.{stateAfter}
 use Rattle.cell.specs.Cell.{pixelsOf, depthOf, slotOf, pixelsIn, zoomOf, shutterOf, withPixels, withZoom, withShutter, maxZoom, soundOf}
@@ -16,10 +16,41 @@ use Rattle.cell.specs.Workers.{Fit}
 use Rattle.cell.proofs.SmallLaws.{Small, small-take, bounded-set}
 use Rattle.cell.proofs.CellLaws.{Kept, kept-same, kept-then, with-zoom-zoom, with-zoom-kept, with-pixels-kept, with-shutter-shutter, with-shutter-zoom, with-shutter-kept}
 use Rattle.cell.proofs.PowerLaws.{max-zoom-limit, zoom-fits}
-use Rattle.cell.proofs.SoundLaws.{sound-is}
+use Rattle.cell.proofs.SoundLaws.{sound-zoom, sound-shutter, sound-is}
 use Rattle.cell.proofs.SumsLaws.{after-then, add-draws, add-state, add-length, add-sums, most-at, Settles, settles}
-use Rattle.cell.proofs.MergeCases.{target-low, target-positive, carry-le}
 
+-- THE TARGET
+module _ (t c : ℕ) (b src : List ℕ) (sound : soundOf t c b ≡ true) (sound' : soundOf t c src ≡ true) (base : 2 ≤ c)
+    (target : ℕ) (et : target ≡ max (zoomOf t b) (zoomOf t src)) where
+  pub target-high : zoomOf t b ≤ target
+  target-high = omega arith
+
+  pub target-high' : zoomOf t src ≤ target
+  target-high' = omega arith
+
+  pub target-low : target ≤ maxZoom c
+  target-low = omega (arith, sound-zoom t c b sound, sound-zoom t c src sound')
+
+  pub target-fits : c ^ target ≤ 2 ^ 32 - 1
+  target-fits = zoom-fits c base target target-low
+
+  module _ (unit shutters : ℕ) (eu : unit ≡ c ^ target) (es : shutters ≡ shutterOf t b + shutterOf t src) where
+    pub target-positive : 0 < unit
+    target-positive = rw eu (one-le-pow target c (omega arith))
+
+    pub remainder-fits : shutters % unit < 2 ^ 32
+    remainder-fits = omega (arith, mod-lt shutters target-positive, target-fits)
+
+    -- two shutters, each below a unit
+    pub carry-le : shutters / unit ≤ 1
+    carry-le =
+        let positive : 0 < c = omega arith in
+        let p : c ^ zoomOf t b ≤ c ^ target = pow-le-pow-right positive target-high in
+        let q : c ^ zoomOf t src ≤ c ^ target = pow-le-pow-right positive target-high' in
+        let h : shutters < 2 * unit = omega (arith, sound-shutter t c b sound, sound-shutter t c src sound') in
+        omega (arith, div-lt-iff-lt-mul target-positive .1 h)
+
+-- THE MERGE
 pub record Merged (t c : ℕ) (b : List ℕ) (σ : ℕ) (s : Step) : Type 0 where
   pub kept : Kept t b (s .bytes)
   pub sound : soundOf t c (s .bytes) ≡ true

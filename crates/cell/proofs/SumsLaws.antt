@@ -18,7 +18,7 @@ use Rattle.cell.specs.Insertion.{divideEach}
 use Rattle.cell.specs.Crossing.{allAtMost}
 use Rattle.cell.specs.Merge.{scaleDown, addPair, addEach, cutEach, Settled, settledLater, settleFrom}
 use Rattle.cell.proofs.DivideLaws.{quotient-small, divide-length, divide-draws, divide-state}
-use Rattle.cell.proofs.CrossingLoops.{most-cons}
+use Rattle.cell.proofs.AtMostLaws.{most-cons}
 
 -- draws one after another
 pub after-then : (a b σ τ : ℕ) → τ ≡ stateAfter a σ → stateAfter b τ ≡ stateAfter (a + b) σ

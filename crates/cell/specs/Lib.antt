@@ -5,5 +5,3 @@ pub mod Merge
 pub mod Refusals
 pub mod BenchSheet
 pub mod Workers
-pub mod CrossingWorkers
-pub mod MergeWorkers

@@ -1,21 +1,18 @@
 // Document 01, "Settings and cell" (cell.rs): one cell, a record of bytes, and what is done to it.
 //
 // A cell counts the items of t + 1 sub-windows in pixels of one byte. A pixel's unit is c^Z items, where the zoom Z is
-// shared by all of them; the shutter holds the items that do not make up a whole unit yet.
-pub mod crossing;
+// shared by all of them; the shutter holds the items that do not make up a whole unit yet. The definitions of all that is
+// done to a cell stand here; crates crossing and merging have the code of the two longer calls.
+pub mod answer;
 pub mod insertion;
 pub mod judging;
 pub mod layout;
-pub mod merge;
 pub mod power;
-pub mod sums;
 
 use refusal::Verdict;
 use rounding::Rounding;
 ghost use mathlib.Core.Path.{_≡_};
-ghost use Rattle.refusal.specs.declared.Verdict.the-variants.{Accepted};
-ghost use Rattle.cell.specs.Refusals.{paramsCall, layoutCall, maxZoomCall, cellVerdict, zoomCall, shutterCall, pixelCall, cellOutcome, insertCall, crossCall, mergeCall};
-ghost use Rattle.cell.specs.Workers.{turnedBack, doneWith};
+ghost use Rattle.cell.specs.Refusals.{paramsCall, layoutCall, maxZoomCall, cellVerdict, zoomCall, shutterCall, pixelCall, cellOutcome, insertCall};
 
 // The number of sub-windows of a window, and the zoom base.
 pub struct MicroParams {
@@ -196,28 +193,6 @@ pub fn scaled_pixel(cell: &[u8], params: MicroParams, n: u64) -> PixelAnswer
     }
 }
 
-// The answer of a call that was turned back: the random state comes back as it was.
-fn turned_back(verdict: Verdict, rounding: Rounding) -> CellAnswer
-    ensures { λ r. ⌜ r ≡ turnedBack verdict rounding ⌝ }
-{
-    CellAnswer {
-        verdict,
-        rounding,
-        draws: 0,
-    }
-}
-
-// The answer of a call that was accepted.
-fn done(drawn: Drawn) -> CellAnswer
-    ensures { λ r. ⌜ r ≡ doneWith drawn ⌝ }
-{
-    CellAnswer {
-        verdict: Verdict::Accepted,
-        rounding: Rounding { state: drawn.state },
-        draws: drawn.draws,
-    }
-}
-
 // Records an item of sub-window n.
 pub fn insert(cell: &mut [u8], params: MicroParams, n: u64, rounding: Rounding) -> CellAnswer
     ensures { λ r. ⌜ cellOutcome (now (cell .exit)) r ≡ insertCall params n (now (cell .entry)) (rounding .state) ⌝ }
@@ -225,7 +200,7 @@ pub fn insert(cell: &mut [u8], params: MicroParams, n: u64, rounding: Rounding) 
     let held = judging::held(&cell[..], params, rounding.state);
     let verdict = held.verdict;
     if !verdict.accepted() {
-        return turned_back(verdict, rounding);
+        return answer::turned_back(verdict, rounding);
     }
     let drawn = insertion::insert_judged(
         cell,
@@ -236,51 +211,5 @@ pub fn insert(cell: &mut [u8], params: MicroParams, n: u64, rounding: Rounding) 
         held.unit,
         rounding.state,
     );
-    done(drawn)
-}
-
-// Moves a cell into sub-window new_n, `crossed` sub-windows on.
-pub fn enter_sub_window(
-    cell: &mut [u8],
-    params: MicroParams,
-    new_n: u64,
-    crossed: u64,
-    rounding: Rounding,
-) -> CellAnswer
-    ensures { λ r. ⌜ cellOutcome (now (cell .exit)) r ≡ crossCall params «new_n» crossed (now (cell .entry)) (rounding .state) ⌝ }
-{
-    let held = crossing::held(&cell[..], params, new_n, crossed, rounding.state);
-    let verdict = held.verdict;
-    if !verdict.accepted() {
-        return turned_back(verdict, rounding);
-    }
-    let drawn = crossing::enter_judged(
-        cell,
-        params.t,
-        params.c,
-        new_n,
-        crossed,
-        held.shutter,
-        held.unit,
-        rounding.state,
-    );
-    done(drawn)
-}
-
-// Adds the counts of src to those of dst, as they are at sub-window n. src is only read.
-pub fn merge_cells(
-    dst: &mut [u8],
-    src: &[u8],
-    params: MicroParams,
-    n: u64,
-    rounding: Rounding,
-) -> CellAnswer
-    ensures { λ r. ⌜ cellOutcome (now (dst .exit)) r ≡ mergeCall params n (now (dst .entry)) (now (src .entry)) (rounding .state) ⌝ }
-{
-    let verdict = merge::judge(&dst[..], src, params, rounding.state);
-    if !verdict.accepted() {
-        return turned_back(verdict, rounding);
-    }
-    let drawn = merge::merge_cells(dst, src, params.t, params.c, n, rounding.state);
-    done(drawn)
+    answer::done(drawn)
 }

@@ -133,8 +133,10 @@ fn perform(call: Change, cell: &mut [u8], src: &[u8]) -> CellAnswer {
     let rounding = Rounding { state: call.state };
     match kind {
         Kind::Insert => cell::insert(cell, params, call.n, rounding),
-        Kind::Enter(crossed) => { cell::enter_sub_window(cell, params, call.n, crossed, rounding) }
-        Kind::Merge => cell::merge_cells(cell, src, params, call.n, rounding),
+        Kind::Enter(crossed) => {
+            crossing::enter_sub_window(cell, params, call.n, crossed, rounding)
+        }
+        Kind::Merge => merging::merge_cells(cell, src, params, call.n, rounding),
     }
 }
 

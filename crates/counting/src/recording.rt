@@ -70,7 +70,7 @@ fn cross_cells(
     let mut index: usize = 0;
     while index < count {
         let end = start + depth;
-        let drawn = cell::crossing::enter_sub_window(
+        let drawn = crossing::worker::enter_sub_window(
             &mut grid[start..end],
             t,
             c,

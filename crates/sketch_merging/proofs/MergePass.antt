@@ -15,7 +15,7 @@ use Rattle.cell.specs.declared.Drawn as cell
 use Rattle.cell.specs.Cell.{depthOf, soundOf, maxZoom}
 use Rattle.cell.specs.Merge.{mergeOf}
 use Rattle.cell.specs.Workers.{Fit, stepOf}
-use Rattle.cell.specs.MergeWorkers.{Pair}
+use Rattle.merging.specs.Workers.{Pair}
 use Rattle.cell.proofs.PowerLaws.{max-zoom-limit}
 use Rattle.cell.proofs.MergeLaws.{merged-leaves}
 use Rattle.microscope.specs.declared.MicroCm.{MicroCm}

@@ -33,7 +33,7 @@ fn merge_cells(
     let mut index: usize = 0;
     while index < count {
         let end = start + depth;
-        let drawn = cell::merge::merge_within(
+        let drawn = merging::merge::merge_within(
             &mut grid[start..end],
             &other[start..end],
             work,

@@ -68,8 +68,8 @@ pub fn perform(call: Call, cell: &mut [u8], src: &[u8]) -> Answer {
     let rounding = Rounding { state: call.state };
     match kind {
         1 => changed(cell::insert(cell, params, call.n, rounding)),
-        2 => changed(cell::enter_sub_window(cell, params, call.n, call.crossed, rounding)),
-        3 => changed(cell::merge_cells(cell, src, params, call.n, rounding)),
+        2 => changed(crossing::enter_sub_window(cell, params, call.n, call.crossed, rounding)),
+        3 => changed(merging::merge_cells(cell, src, params, call.n, rounding)),
         4 => laid_out(params),
         5 => fields(cell, params, call.n),
         _ => Answer {

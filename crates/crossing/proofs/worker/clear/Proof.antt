@@ -1,0 +1,54 @@
+-- `clear`: each turn is one clause of `clearOf`, and the sub-windows cleared and left are `count` in all. Assumes nothing.
+use Rattle.crossing.proofs.CrossingLoops.{Clearing, clearing-begin, clearing-in, clearing-on, clearing-end}
+use borrow.Author.Needs.{needs}
+use Rattle.crossing.proofs.worker.clear.Statement.{statement}
+use Rattle.crossing.proofs.worker.clear.Tie as tie
+
+abbrev Inv-loop : tie.InvT-loop
+Inv-loop cell₀ t ended count window₀ left₀ cell window left = Clearing t cell₀ ended count cell window left
+
+abbrev μ-loop : tie.MeasureT-loop
+μ-loop cell₀ t ended count window₀ left₀ cell window left = left
+
+loop-holds : tie.Need-loop-holds Inv-loop μ-loop
+loop-holds c = search (clearing-begin, needs)
+
+add-window : tie.Need-add-window Inv-loop μ-loop
+add-window c = search needs
+
+slot-requires : tie.Need-slot-requires Inv-loop μ-loop
+slot-requires c κs = search needs
+
+slice-write-cell : tie.Need-slice-write-cell Inv-loop μ-loop
+slice-write-cell c = search (clearing-in, needs)
+
+sub-left : tie.Need-sub-left Inv-loop μ-loop
+sub-left c = search needs
+
+loop-less : tie.Need-loop-less Inv-loop μ-loop
+loop-less c = search needs
+
+loop-again : tie.Need-loop-again Inv-loop μ-loop
+loop-again c = search (clearing-on, needs)
+
+same-length : tie.Need-same-length Inv-loop μ-loop
+same-length c = search needs
+
+returns : tie.Need-returns Inv-loop μ-loop
+returns c = search (clearing-end, needs)
+
+pub clear-spec : {M : Type 1} → statement M
+clear-spec =
+    tie.close
+    (tie.spec
+    Inv-loop
+    μ-loop
+    loop-holds
+    add-window
+    slot-requires
+    slice-write-cell
+    sub-left
+    loop-less
+    loop-again
+    same-length
+    returns)

@@ -1,0 +1,37 @@
+// Document 01, "Crossing" (cell.rs): a cell moves on into a later sub-window.
+pub mod worker;
+
+use cell::CellAnswer;
+use cell::MicroParams;
+use cell::answer;
+use rounding::Rounding;
+ghost use mathlib.Core.Path.{_≡_};
+ghost use Rattle.cell.specs.Refusals.{cellOutcome, crossCall};
+
+// Moves a cell into sub-window new_n, `crossed` sub-windows on.
+pub fn enter_sub_window(
+    cell: &mut [u8],
+    params: MicroParams,
+    new_n: u64,
+    crossed: u64,
+    rounding: Rounding,
+) -> CellAnswer
+    ensures { λ r. ⌜ cellOutcome (now (cell .exit)) r ≡ crossCall params «new_n» crossed (now (cell .entry)) (rounding .state) ⌝ }
+{
+    let held = worker::held(&cell[..], params, new_n, crossed, rounding.state);
+    let verdict = held.verdict;
+    if !verdict.accepted() {
+        return answer::turned_back(verdict, rounding);
+    }
+    let drawn = worker::enter_judged(
+        cell,
+        params.t,
+        params.c,
+        new_n,
+        crossed,
+        held.shutter,
+        held.unit,
+        rounding.state,
+    );
+    answer::done(drawn)
+}

@@ -1,0 +1,246 @@
+// Document 01, "Crossing" (`enter_sub_window`), in its stages: close the shutter, clear, zoom in.
+use cell::Drawn;
+use cell::Held;
+use cell::MicroParams;
+use cell::insertion;
+use cell::judging;
+use cell::layout;
+use cell::power;
+use refusal::Verdict;
+ghost use mathlib.Core.Path.{_≡_};
+ghost use mathlib.Core.Bool.{true, _&&_};
+ghost use lib.Dec.{ltb};
+ghost use Prim.Native.Nat.{_+_, _-_, _*_, _^_, _<_, _≤_};
+ghost use lib.ListN.{length, replicate};
+ghost use Rattle.laws.specs.Steps.{still};
+ghost use Rattle.cell.specs.Cell.{pixelsOf, pixelsIn, depthOf, soundOf};
+ghost use Rattle.cell.specs.Crossing.{closeOf, clearOf, emptied, insideOf, ceilingOf, allAtMost, timesEach, zoomedIn, zoomInOf, crossOf};
+ghost use Rattle.cell.specs.Workers.{Fit, Judged, stepOf};
+ghost use Rattle.crossing.specs.Workers.{CrossingHeld};
+
+// A cell judged for a crossing: 1, 2, 5, 6, 9, 14.
+pub fn held(cell: &[u8], params: MicroParams, n: u64, crossed: u64, state: u64) -> Held
+    ensures { λ r. ⌜ CrossingHeld params n crossed (now (cell .entry)) state r ⌝ }
+{
+    let verdict = judging::before_cell(params, state, cell.len());
+    if !verdict.accepted() {
+        return Held {
+            verdict,
+            shutter: 0,
+            unit: 0,
+        };
+    }
+    if starts_before_first(params.t, n, crossed) {
+        return Held {
+            verdict: Verdict::Refused(9),
+            shutter: 0,
+            unit: 0,
+        };
+    }
+    judging::held(cell, params, state)
+}
+
+// The sub-window that ends would stand before sub-window 0. A far jump does not ask for it.
+fn starts_before_first(t: usize, n: u64, crossed: u64) -> bool
+    requires { ⌜ t ≤ 4096 ⌝ }
+    ensures { λ r. ⌜ r ≡ (ltb 0 crossed && ltb crossed (pixelsOf t) && ltb n crossed) ⌝ }
+{
+    if crossed == 0 {
+        return false;
+    }
+    if (layout::pixels(t) as u64) <= crossed {
+        return false;
+    }
+    n < crossed
+}
+
+// Moves a cell into sub-window n, `crossed` sub-windows on.
+pub fn enter_sub_window(
+    cell: &mut [u8],
+    t: usize,
+    c: u32,
+    n: u64,
+    crossed: u64,
+    state: u64,
+) -> Drawn
+    requires { ⌜ Fit t c (length (now cell)) × (soundOf t c (now cell) ≡ true) × (crossed < pixelsOf t → crossed ≤ n) ⌝ }
+    ensures { λ r. ⌜ stepOf (now (cell .exit)) r ≡ crossOf t c n crossed (now (cell .entry)) state ⌝ }
+    ensures { λ r. ⌜ r .draws ≤ t + 3 ⌝ }
+{
+    let shutter = layout::shutter(&cell[..], t);
+    let zoom = layout::zoom(&cell[..], t);
+    let unit = power::unit(c, zoom);
+    enter_judged(cell, t, c, n, crossed, shutter, unit, state)
+}
+
+// The same for a cell whose shutter and unit the caller has read already.
+pub fn enter_judged(
+    cell: &mut [u8],
+    t: usize,
+    c: u32,
+    n: u64,
+    crossed: u64,
+    shutter: u32,
+    unit: u64,
+    state: u64,
+) -> Drawn
+    requires { ⌜ Judged t c (now cell) shutter unit × (crossed < pixelsOf t → crossed ≤ n) ⌝ }
+    ensures { λ r. ⌜ stepOf (now (cell .exit)) r ≡ crossOf t c n crossed (now (cell .entry)) state ⌝ }
+    ensures { λ r. ⌜ r .draws ≤ t + 3 ⌝ }
+{
+    if crossed == 0 {
+        return Drawn { state, draws: 0 };
+    }
+    let drawn = enter_unzoomed(cell, t, c, n, crossed, shutter, unit, state);
+    zoom_in(cell, t, c);
+    drawn
+}
+
+// All but the zooming in.
+fn enter_unzoomed(
+    cell: &mut [u8],
+    t: usize,
+    c: u32,
+    n: u64,
+    crossed: u64,
+    shutter: u32,
+    unit: u64,
+    state: u64,
+) -> Drawn
+    requires { ⌜ Judged t c (now cell) shutter unit × (crossed < pixelsOf t → crossed ≤ n) ⌝ }
+    ensures { λ r. ⌜ stepOf (now (cell .exit)) r ≡ insideOf t c n crossed (now (cell .entry)) state ⌝ }
+    ensures { λ r. ⌜ r .draws ≤ t + 3 ⌝ }
+{
+    if crossed >= (layout::pixels(t) as u64) {
+        return empty(cell, t, state);
+    }
+    // What the shutter holds belongs to the sub-window that ends: in the new pixel it would count for a whole window.
+    let ended = n - crossed;
+    let drawn = close(cell, t, c, layout::slot(t, ended), shutter, unit, state);
+    clear(cell, t, ended, crossed);
+    drawn
+}
+
+// Closes the shutter into a pixel.
+fn close(
+    cell: &mut [u8],
+    t: usize,
+    c: u32,
+    slot: usize,
+    shutter: u32,
+    unit: u64,
+    state: u64,
+) -> Drawn
+    requires { ⌜ Judged t c (now cell) shutter unit × (slot < pixelsOf t) ⌝ }
+    ensures { λ r. ⌜ stepOf (now (cell .exit)) r ≡ closeOf t c slot (now (cell .entry)) state ⌝ }
+    ensures { λ r. ⌜ r .draws ≤ t + 3 ⌝ }
+{
+    layout::set_shutter(cell, t, 0);
+    let rounded = rounding::worker::divide(shutter as u64, unit, state);
+    if rounded.value == 0 {
+        return Drawn {
+            state: rounded.state,
+            draws: rounded.draws,
+        };
+    }
+    let credited = insertion::credit_pixel(cell, t, c, slot, rounded.state);
+    Drawn {
+        state: credited.state,
+        draws: rounded.draws + credited.draws,
+    }
+}
+
+// Clears the pixels of the `count` sub-windows after `ended`. The last of them may be sub-window 2^64 - 1, so the
+// number goes up before a pixel is cleared, and not after.
+fn clear(cell: &mut [u8], t: usize, ended: u64, count: u64)
+    requires { ⌜ (t ≤ 4096) × (pixelsOf t ≤ length (now cell)) × (ended + count < 2 ^ 64) ⌝ }
+    ensures { λ _. ⌜ now (cell .exit) ≡ clearOf t count (ended + 1) (now (cell .entry)) ⌝ }
+{
+    let mut window = ended;
+    let mut left = count;
+    while left > 0 {
+        window += 1;
+        let slot = layout::slot(t, window);
+        cell[slot] = 0;
+        left -= 1;
+    }
+}
+
+// The far jump: nothing of the window is left, and nothing is rounded.
+fn empty(cell: &mut [u8], t: usize, state: u64) -> Drawn
+    requires { ⌜ (t ≤ 4096) × (length (now cell) ≡ depthOf t) ⌝ }
+    ensures { λ r. ⌜ stepOf (now (cell .exit)) r ≡ still (emptied t (now (cell .entry))) state ⌝ }
+{
+    let pixels = layout::pixels(t);
+    zero_all(&mut cell[..pixels]);
+    layout::set_shutter(cell, t, 0);
+    Drawn { state, draws: 0 }
+}
+
+fn zero_all(pixels: &mut [u8])
+    ensures { λ _. ⌜ now (pixels .exit) ≡ replicate (length (now (pixels .entry))) 0 ⌝ }
+{
+    let mut i: usize = 0;
+    while i < pixels.len() {
+        pixels[i] = 0;
+        i += 1;
+    }
+}
+
+// Zooms in as far as the pixels allow.
+fn zoom_in(cell: &mut [u8], t: usize, c: u32)
+    requires { ⌜ Fit t c (length (now cell)) ⌝ }
+    ensures { λ _. ⌜ now (cell .exit) ≡ zoomInOf t c (now (cell .entry)) ⌝ }
+{
+    let mut zoom = layout::zoom(&cell[..], t);
+    while zoom > 0 {
+        if !has_room(&cell[..], t, c) {
+            return;
+        }
+        zoom -= 1;
+        zoom_in_to(cell, t, c, zoom);
+    }
+}
+
+// Every pixel still fits a byte when it is multiplied by c: tested against 256 / c, 128 would become 256 for c = 2.
+fn has_room(cell: &[u8], t: usize, c: u32) -> bool
+    requires { ⌜ Fit t c (length (now cell)) ⌝ }
+    ensures { λ r. ⌜ r ≡ allAtMost (ceilingOf c) (pixelsIn t (now (cell .entry))) ⌝ }
+{
+    let pixels = layout::pixels(t);
+    all_at_most(&cell[..pixels], 255 / c)
+}
+
+// One level in.
+fn zoom_in_to(cell: &mut [u8], t: usize, c: u32, zoom: u8)
+    requires { ⌜ Fit t c (length (now cell)) × (allAtMost (ceilingOf c) (pixelsIn t (now cell)) ≡ true) ⌝ }
+    ensures { λ _. ⌜ now (cell .exit) ≡ zoomedIn t c zoom (now (cell .entry)) ⌝ }
+{
+    let pixels = layout::pixels(t);
+    times_each(&mut cell[..pixels], c);
+    layout::set_zoom(cell, t, zoom);
+}
+
+fn all_at_most(pixels: &[u8], most: u32) -> bool
+    ensures { λ r. ⌜ r ≡ allAtMost most (now (pixels .entry)) ⌝ }
+{
+    let mut i: usize = 0;
+    while i < pixels.len() {
+        if most < layout::wide(pixels[i]) {
+            return false;
+        }
+        i += 1;
+    }
+    true
+}
+
+fn times_each(pixels: &mut [u8], c: u32)
+    requires { ⌜ (2 ≤ c) × (allAtMost (ceilingOf c) (now pixels) ≡ true) ⌝ }
+    ensures { λ _. ⌜ now (pixels .exit) ≡ timesEach c (now (pixels .entry)) ⌝ }
+{
+    let mut i: usize = 0;
+    while i < pixels.len() {
+        pixels[i] = (layout::wide(pixels[i]) * c) as u8;
+        i += 1;
+    }
+}

@@ -1,0 +1,3 @@
+pub mod MergeLoops
+pub mod MergeCases
+pub mod MergeCalls

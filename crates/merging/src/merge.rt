@@ -1,0 +1,133 @@
+// Document 01, "Merge" (`merge_cells`): the counts of src are added to dst's.
+use crate::sums;
+use cell::Drawn;
+use cell::MicroParams;
+use cell::judging;
+use cell::layout;
+use cell::power;
+use refusal::Verdict;
+ghost use mathlib.Core.Path.{_≡_};
+ghost use mathlib.Core.Bool.{true};
+ghost use Prim.Native.Nat.{_+_, _≤_, max};
+ghost use lib.ListN.{length};
+ghost use Rattle.cell.specs.Cell.{pixelsOf, depthOf, zoomOf, shutterOf, withPixels, withZoom, withShutter};
+ghost use Rattle.cell.specs.Crossing.{allAtMost};
+ghost use Rattle.cell.specs.Merge.{mergeOf};
+ghost use Rattle.cell.specs.Workers.{stepOf};
+ghost use Rattle.merging.specs.Workers.{Pair, PairJudged};
+
+// Two cells judged for a merge: 1, 2, 5, 6, 14.
+pub fn judge(dst: &[u8], src: &[u8], params: MicroParams, state: u64) -> Verdict
+    ensures { λ r. ⌜ PairJudged params (now (dst .entry)) (now (src .entry)) state r ⌝ }
+{
+    let verdict = judging::before_cell(params, state, dst.len());
+    if !verdict.accepted() {
+        return verdict;
+    }
+    let t = params.t;
+    let c = params.c;
+    if src.len() != layout::depth(t) {
+        return Verdict::Refused(6);
+    }
+    if !judging::sound(dst, t, c) {
+        return Verdict::Unsound(0);
+    }
+    if !judging::sound(src, t, c) {
+        return Verdict::Unsound(0);
+    }
+    Verdict::Accepted
+}
+
+// Two pixels of 255 and the carry of the shutters make 511, which no byte holds: the sums are worked out in an array
+// of their own. A cell has at most 4,098 pixels.
+pub fn merge_cells(dst: &mut [u8], src: &[u8], t: usize, c: u32, n: u64, state: u64) -> Drawn
+    requires { ⌜ Pair t c (now dst) (now src) ⌝ }
+    ensures { λ r. ⌜ stepOf (now (dst .exit)) r ≡ mergeOf t c n (now (dst .entry)) (now (src .entry)) state ⌝ }
+{
+    let mut work = [0u32; 4098];
+    merge_within(dst, src, &mut work, t, c, n, state)
+}
+
+// The same in an array that the caller lends, so that a merge of many cells makes one.
+pub fn merge_within(
+    dst: &mut [u8],
+    src: &[u8],
+    work: &mut [u32],
+    t: usize,
+    c: u32,
+    n: u64,
+    state: u64,
+) -> Drawn
+    requires { ⌜ Pair t c (now dst) (now src) ⌝ }
+    requires { ⌜ length (now work) ≡ 4098 ⌝ }
+    ensures { λ r. ⌜ stepOf (now (dst .exit)) r ≡ mergeOf t c n (now (dst .entry)) (now (src .entry)) state ⌝ }
+{
+    let pixels = layout::pixels(t);
+    merge_by(dst, src, &mut work[..pixels], t, c, n, state)
+}
+
+// The same, with a sum for each pixel.
+fn merge_by(
+    dst: &mut [u8],
+    src: &[u8],
+    sums: &mut [u32],
+    t: usize,
+    c: u32,
+    n: u64,
+    state: u64,
+) -> Drawn
+    requires { ⌜ Pair t c (now dst) (now src) ⌝ }
+    requires { ⌜ length (now sums) ≡ pixelsOf t ⌝ }
+    ensures { λ r. ⌜ stepOf (now (dst .exit)) r ≡ mergeOf t c n (now (dst .entry)) (now (src .entry)) state ⌝ }
+{
+    let target = larger_zoom(&dst[..], src, t);
+    let unit = power::unit(c, target);
+    let shutters = both_shutters(&dst[..], src, t);
+    let summed = sums::sum_up(sums, &dst[..], src, t, c, target, n, shutters / unit, state);
+    // The remainder is below the unit of the target, and so below that of every zoom above it.
+    store(dst, &sums[..], t, summed.zoom, (shutters % unit) as u32);
+    Drawn {
+        state: summed.state,
+        draws: summed.draws,
+    }
+}
+
+fn larger_zoom(dst: &[u8], src: &[u8], t: usize) -> u8
+    requires { ⌜ (t ≤ 4096) × (length (now dst) ≡ depthOf t) × (length (now src) ≡ depthOf t) ⌝ }
+    ensures { λ r. ⌜ r ≡ max (zoomOf t (now (dst .entry))) (zoomOf t (now (src .entry))) ⌝ }
+{
+    let zoom = layout::zoom(dst, t);
+    let other = layout::zoom(src, t);
+    if zoom < other {
+        return other;
+    }
+    zoom
+}
+
+fn both_shutters(dst: &[u8], src: &[u8], t: usize) -> u64
+    requires { ⌜ (t ≤ 4096) × (length (now dst) ≡ depthOf t) × (length (now src) ≡ depthOf t) ⌝ }
+    ensures { λ r. ⌜ r ≡ shutterOf t (now (dst .entry)) + shutterOf t (now (src .entry)) ⌝ }
+{
+    (layout::shutter(dst, t) as u64) + (layout::shutter(src, t) as u64)
+}
+
+fn store(dst: &mut [u8], sums: &[u32], t: usize, zoom: u8, shutter: u32)
+    requires { ⌜ (t ≤ 4096) × (length (now dst) ≡ depthOf t) × (length (now sums) ≡ pixelsOf t) × (allAtMost 255 (now sums) ≡ true) ⌝ }
+    ensures { λ _. ⌜ now (dst .exit) ≡ withShutter t shutter (withZoom t zoom (withPixels t (now (sums .entry)) (now (dst .entry)))) ⌝ }
+{
+    let pixels = layout::pixels(t);
+    copy_each(&mut dst[..pixels], sums);
+    layout::set_zoom(dst, t, zoom);
+    layout::set_shutter(dst, t, shutter);
+}
+
+fn copy_each(pixels: &mut [u8], sums: &[u32])
+    requires { ⌜ (length (now sums) ≡ length (now pixels)) × (allAtMost 255 (now sums) ≡ true) ⌝ }
+    ensures { λ _. ⌜ now (pixels .exit) ≡ now (sums .entry) ⌝ }
+{
+    let mut i: usize = 0;
+    while i < pixels.len() {
+        pixels[i] = sums[i] as u8;
+        i += 1;
+    }
+}
