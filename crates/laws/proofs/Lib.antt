@@ -8,3 +8,4 @@ pub mod FractionValues
 pub mod FigureLaws
 pub mod UnitLaws
 pub mod LinearLaws
+pub mod PieceLaws

@@ -1,3 +1,4 @@
 pub mod VerdictCases
 pub mod MergePass
 pub mod MergeCases
+pub mod MergedLaws
