@@ -54,7 +54,7 @@ module _ (c : ℕ) where
 
   pub uncut-below : (left z : ℕ) (sums : List ℕ) (σ : ℕ) → settleFrom c left z sums σ .zoom < z + left → Uncut z sums σ (settleFrom c left z sums σ)
   unfolding settleFrom divideTimes
-  uncut-below zero z sums σ h = absurd (omega arith)
+  uncut-below zero z sums σ = λ h. absurd (omega arith)
   uncut-below (suc left) z sums σ = by (uncut-below left (z + 1) (divideEach c sums σ .bytes) (divideEach c sums σ .state)) (allAtMost 255 sums)
     where
       s : Step
