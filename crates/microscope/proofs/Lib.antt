@@ -6,6 +6,7 @@ pub mod JudgedLaws
 pub mod KeyCellLaws
 pub mod FigureLaws
 pub mod SketchGates
+pub mod ReadyLaws
 pub mod JudgeCases
 pub mod JudgeLoops
 pub mod GridLaws

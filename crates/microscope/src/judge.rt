@@ -12,7 +12,7 @@ ghost use Rattle.refusal.specs.declared.Verdict.the-variants.{Accepted, Unsound
 ghost use Rattle.cell.specs.Cell.{soundOf};
 ghost use Rattle.microscope.specs.Sketch.{cellsOf, cellOf, keyCells, allCells};
 ghost use Rattle.microscope.specs.Audit.{firstUnsound};
-ghost use Rattle.microscope.specs.Refusals.{bitsUpTo, gridFits, refuseSettings, sketchVerdict, allBelow, keyFits};
+ghost use Rattle.microscope.specs.Refusals.{bitsUpTo, gridFits, refuseSettings, refuseSketch, refuseKey, sketchVerdict, allBelow, keyFits};
 ghost use Rattle.microscope.specs.Workers.{Ready};
 
 // log2 of cols, and 0 where cols is no power of two from 2 to 65,536.
@@ -108,6 +108,20 @@ fn key_fits(sketch: MicroCm, key: &[u32]) -> bool
         return all_below(key, sketch.cols);
     }
     false
+}
+
+// 1 to 7.
+pub fn keyed(sketch: MicroCm, key: &[u32], grid: &[u8]) -> Verdict
+    ensures { λ r. ⌜ r ≡ refuseSketch sketch (now (grid .entry)) (refuseKey sketch (now (key .entry)) Accepted) ⌝ }
+{
+    let verdict = crate::judge::sketch(sketch, grid);
+    if !verdict.accepted() {
+        return verdict;
+    }
+    if key_fits(sketch, key) {
+        return Verdict::Accepted;
+    }
+    Verdict::Refused(7)
 }
 
 fn cell_sound(sketch: MicroCm, grid: &[u8], index: usize) -> bool
