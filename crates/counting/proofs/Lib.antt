@@ -1,3 +1,4 @@
 pub mod RecordingCases
 pub mod RecordingLoop
 pub mod CrossingPass
+pub mod PassageLaws
