@@ -2,3 +2,4 @@ pub mod RecordingCases
 pub mod RecordingLoop
 pub mod CrossingPass
 pub mod PassageLaws
+pub mod VerdictCases

@@ -1,11 +1,14 @@
 -- What the workers rely on. The public calls have judged it; no public contract cites this file.
 use Prim.Native.Nat.{ℕ, _+_, _*_, _^_, _≤_, _<_}
 use mathlib.Core.Path.{_≡_}
-use mathlib.Core.Bool.{true}
+use mathlib.Core.Bool.{Bool, true}
 use mathlib.Core.List.{List, []}
 use lib.ListN.{length}
 use Rattle.laws.specs.Steps.{Step}
 use Rattle.laws.specs.Parts.{part}
+use Rattle.refusal.specs.declared.Verdict.{Verdict}
+use Rattle.refusal.specs.declared.Verdict.the-variants.{Accepted}
+use Rattle.refusal.specs.Refusals.{refuse}
 use Rattle.cell.specs.Cell.{depthOf, soundOf}
 use Rattle.cell.specs.Crossing.{crossOf}
 use Rattle.cell.specs.Workers.{Fit}
@@ -13,8 +16,8 @@ use Rattle.clock.specs.declared.SubWindowClock.{SubWindowClock}
 use Rattle.clock.specs.Clock.{lengthOf, nOf}
 use Rattle.microscope.specs.declared.MicroCm.{MicroCm}
 use Rattle.microscope.specs.declared.Passed.{Passed}
-use Rattle.microscope.specs.Sketch.{World}
-use Rattle.microscope.specs.Refusals.{judgedCells}
+use Rattle.microscope.specs.Sketch.{keyCells, World}
+use Rattle.microscope.specs.Refusals.{refuseSketch, refuseKey, refuseUnsound, judgedCells}
 use Rattle.microscope.specs.Workers.{Ready, Judged}
 use Rattle.counting.specs.declared.Passage.{Passage}
 
@@ -40,10 +43,18 @@ pub record Movable (k : MicroCm) (clock : SubWindowClock) (g : List ℕ) : Type 
 abbrev pub worldOf : Passage → List ℕ → World
 worldOf p g = record { sketch = p .sketch; grid = g; draws = p .draws }
 
+-- the sketch with another clock and another random state
+abbrev pub taking : MicroCm → SubWindowClock → ℕ → MicroCm
+taking k clock σ = record { rows = k .rows; cols = k .cols; params = k .params; clock = clock; rounding = record { state = σ } }
+
 -- goes on with this clock, and with what a pass over the grid returned
 abbrev pub wentOn : Passage → SubWindowClock → Passed → Passage
-wentOn p clock r =
-    record {
-      sketch = record { rows = p .sketch .rows; cols = p .sketch .cols; params = p .sketch .params; clock = clock; rounding = record { state = r .state } };
-      draws = p .draws + r .draws;
-    }
+wentOn p clock r = record { sketch = taking (p .sketch) clock (r .state); draws = p .draws + r .draws }
+
+-- the verdict on an item, and on no item, for a sketch that takes this clock by the call: 8 if the clock is of the wrong kind
+abbrev pub itemVerdict : MicroCm → List ℕ → List ℕ → SubWindowClock → Bool → Verdict
+itemVerdict k key g clock wrong =
+    refuseSketch k g (refuseKey k key (refuse 8 wrong (refuseUnsound k g (judgedCells k clock (keyCells k 0 key)) Accepted)))
+
+abbrev pub moveVerdict : MicroCm → List ℕ → SubWindowClock → Bool → Verdict
+moveVerdict k g clock wrong = refuseSketch k g (refuse 8 wrong (refuseUnsound k g (judgedCells k clock []) Accepted))

@@ -1,4 +1,5 @@
 // Document 01, "Sketch and grid": the calls that count.
+mod judge;
 pub mod recording;
 pub mod worker;
 

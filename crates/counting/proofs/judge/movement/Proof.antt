@@ -1,0 +1,42 @@
+-- `movement`: as for an item, without a key; and where n stays no cell is judged. Assumes nothing.
+use Rattle.counting.proofs.VerdictCases.{move-refused, move-ready, move-clock, move-wrong, move-all, move-none}
+use borrow.Author.Needs.{needs}
+use Rattle.counting.proofs.judge.movement.Statement.{statement}
+use Rattle.counting.proofs.judge.movement.Tie as tie
+
+sketch-requires : tie.Need-sketch-requires
+sketch-requires c κs = search needs
+
+accepted-requires : tie.Need-accepted-requires
+accepted-requires c κs = search needs
+
+returns : tie.Need-returns
+returns c = search (move-refused, needs)
+
+returns-2 : tie.Need-returns-2
+returns-2 c = search (move-wrong, needs)
+
+crosses-requires : tie.Need-crosses-requires
+crosses-requires c κs = (search (move-clock, needs), search needs)
+
+all-cells-requires : tie.Need-all-cells-requires
+all-cells-requires c κs = search (move-ready, needs)
+
+returns-3 : tie.Need-returns-3
+returns-3 c = search (move-all, needs)
+
+returns-4 : tie.Need-returns-4
+returns-4 c = search (move-none, needs)
+
+pub movement-spec : {M : Type 1} → statement M
+movement-spec =
+    tie.close
+    (tie.spec
+    sketch-requires
+    accepted-requires
+    returns
+    returns-2
+    crosses-requires
+    all-cells-requires
+    returns-3
+    returns-4)
