@@ -16,8 +16,9 @@ use Rattle.clock.specs.declared.SubWindowClock.{SubWindowClock}
 use Rattle.clock.specs.Clock.{lengthOf, nOf}
 use Rattle.microscope.specs.declared.MicroCm.{MicroCm}
 use Rattle.microscope.specs.declared.Passed.{Passed}
+use Rattle.microscope.specs.declared.SketchAnswer.{SketchAnswer}
 use Rattle.microscope.specs.Sketch.{keyCells, World}
-use Rattle.microscope.specs.Refusals.{refuseSketch, refuseKey, refuseUnsound, judgedCells}
+use Rattle.microscope.specs.Refusals.{keyFits, refuseSketch, refuseKey, refuseUnsound, judgedCells, sketchVerdict}
 use Rattle.microscope.specs.Workers.{Ready, Judged}
 use Rattle.counting.specs.declared.Passage.{Passage}
 
@@ -39,6 +40,14 @@ pub record Movable (k : MicroCm) (clock : SubWindowClock) (g : List ℕ) : Type 
   pub grows : nOf (k .clock) ≤ nOf clock
   pub judged : Judged k g (judgedCells k clock [])
 
+-- an item that was judged, for a sketch that takes this clock by it
+pub record JudgedItem (k : MicroCm) (key g : List ℕ) (clock : SubWindowClock) : Type 0 where
+  pub sketch : sketchVerdict k g ≡ Accepted
+  pub fits : keyFits k key ≡ true
+  pub as-long : lengthOf clock ≡ lengthOf (k .clock)
+  pub grows : nOf (k .clock) ≤ nOf clock
+  pub judged : Judged k g (judgedCells k clock (keyCells k 0 key))
+
 -- a passage with the grid beside it
 abbrev pub worldOf : Passage → List ℕ → World
 worldOf p g = record { sketch = p .sketch; grid = g; draws = p .draws }
@@ -58,3 +67,7 @@ itemVerdict k key g clock wrong =
 
 abbrev pub moveVerdict : MicroCm → List ℕ → SubWindowClock → Bool → Verdict
 moveVerdict k g clock wrong = refuseSketch k g (refuse 8 wrong (refuseUnsound k g (judgedCells k clock []) Accepted))
+
+-- what a call returns of a passage
+abbrev pub answerOf : Verdict → Passage → SketchAnswer
+answerOf v p = record { verdict = v; sketch = p .sketch; draws = p .draws }

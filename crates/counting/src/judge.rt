@@ -19,7 +19,13 @@ fn crosses(before: SubWindowClock, after: SubWindowClock) -> bool
 }
 
 // An item for a sketch that takes the clock `after` by it.
-pub fn item(sketch: MicroCm, key: &[u32], grid: &[u8], after: SubWindowClock, wrong: bool) -> Verdict
+pub fn item(
+    sketch: MicroCm,
+    key: &[u32],
+    grid: &[u8],
+    after: SubWindowClock,
+    wrong: bool,
+) -> Verdict
     requires { ⌜ lengthOf after ≡ lengthOf (sketch .clock) ⌝ }
     ensures { λ r. ⌜ r ≡ itemVerdict sketch (now (key .entry)) (now (grid .entry)) after wrong ⌝ }
 {

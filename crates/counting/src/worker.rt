@@ -1,5 +1,5 @@
-// Document 01, "Sketch and grid": the two things that a call does to a sketch and its grid, for the public calls, which have
-// judged the sketch and the cells.
+// Document 01, "Sketch and grid": the two things that a call does to a sketch and its grid, and their two orders. The public
+// calls have judged the sketch and the cells.
 use crate::Passage;
 use crate::recording;
 use clock::SubWindowClock;
@@ -11,7 +11,8 @@ ghost use Prim.Native.Nat.{_+_, _*_, _^_, _≤_};
 ghost use lib.ListN.{length};
 ghost use Rattle.microscope.specs.Sketch.{recorded, moved};
 ghost use Rattle.microscope.specs.Workers.{Readable};
-ghost use Rattle.counting.specs.Workers.{Movable, worldOf, wentOn};
+ghost use Rattle.microscope.specs.Refusals.{world};
+ghost use Rattle.counting.specs.Workers.{Movable, JudgedItem, worldOf, wentOn};
 
 // The sketch with another clock, and the random state that a pass over its grid left.
 fn went_on(before: Passage, clock: SubWindowClock, passed: Passed) -> Passage
@@ -36,7 +37,7 @@ fn went_on(before: Passage, clock: SubWindowClock, passed: Passed) -> Passage
 }
 
 // An item into the key's cell of each row, counted in the present sub-window.
-pub fn record(before: Passage, key: &[u32], grid: &mut [u8]) -> Passage
+fn record_item(before: Passage, key: &[u32], grid: &mut [u8]) -> Passage
     requires { ⌜ Readable (before .sketch) (now key) (now grid) × (before .draws ≤ 2 ^ 40) ⌝ }
     ensures { λ r. ⌜ worldOf r (now (grid .exit)) ≡ recorded (now (key .entry)) (worldOf before (now (grid .entry))) ⌝ }
     ensures { λ r. ⌜ r .draws ≤ before .draws + 2 ^ 36 ⌝ }
@@ -66,4 +67,32 @@ pub fn move_to(before: Passage, clock: SubWindowClock, grid: &mut [u8]) -> Passa
     }
     let passed = recording::cross_each(sketch, grid, new, new - old, state);
     went_on(before, clock, passed)
+}
+
+// `update`: the item belongs to the sub-window that it finds.
+pub fn record_and_move(
+    sketch: MicroCm,
+    key: &[u32],
+    after: SubWindowClock,
+    grid: &mut [u8],
+) -> Passage
+    requires { ⌜ JudgedItem sketch (now key) (now grid) after ⌝ }
+    ensures { λ r. ⌜ worldOf r (now (grid .exit)) ≡ moved after (recorded (now (key .entry)) (world sketch (now (grid .entry)))) ⌝ }
+{
+    let recorded = record_item(Passage { sketch, draws: 0 }, key, grid);
+    move_to(recorded, after, grid)
+}
+
+// `update_at`: the item belongs to the sub-window of its own time.
+pub fn move_and_record(
+    sketch: MicroCm,
+    key: &[u32],
+    after: SubWindowClock,
+    grid: &mut [u8],
+) -> Passage
+    requires { ⌜ JudgedItem sketch (now key) (now grid) after ⌝ }
+    ensures { λ r. ⌜ worldOf r (now (grid .exit)) ≡ recorded (now (key .entry)) (moved after (world sketch (now (grid .entry)))) ⌝ }
+{
+    let moved = move_to(Passage { sketch, draws: 0 }, after, grid);
+    record_item(moved, key, grid)
 }

@@ -1,8 +1,8 @@
--- `record`: an item of the present sub-window goes into each row, and the sketch keeps its clock. Assumes nothing.
+-- `record_item`: an item of the present sub-window goes into each row, and the sketch keeps its clock. Assumes nothing.
 use Rattle.counting.proofs.PassageLaws.{record-done}
 use borrow.Author.Needs.{needs}
-use Rattle.counting.proofs.worker.record.Statement.{statement}
-use Rattle.counting.proofs.worker.record.Tie as tie
+use Rattle.counting.proofs.worker.record_item.Statement.{statement}
+use Rattle.counting.proofs.worker.record_item.Tie as tie
 
 sub-window-requires : tie.Need-sub-window-requires
 sub-window-requires c κs = search needs
@@ -19,7 +19,7 @@ same-length c = search needs
 returns : tie.Need-returns
 returns c = (search (record-done, needs), search needs)
 
-pub record-spec : {M : Type 1} → statement M
-record-spec =
+pub record-item-spec : {M : Type 1} → statement M
+record-item-spec =
     tie.close
     (tie.spec sub-window-requires insert-each-requires went-on-requires same-length returns)
