@@ -1,9 +1,8 @@
 -- The calls from verdict to answer: what an accepted one may rely on at each of its steps, and that either way out is what the definition gives there.
 use Prim.Native.Nat.{ℕ}
-use mathlib.Core.Path.{_≡_, refl, sym, _∙_, subst}
+use mathlib.Core.Path.{_≡_, refl, sym, _∙_}
 use mathlib.Core.Bool.{Bool, true, false, not}
 use mathlib.Core.List.{List, []}
-use lib.Dec.{eqb}
 use lib.ListN.{length}
 use Rattle.refusal.specs.declared.Verdict.{Verdict}
 use Rattle.refusal.specs.declared.Verdict.the-variants.{Accepted}
@@ -11,12 +10,11 @@ use Rattle.refusal.specs.Refusals.{isAccepted, refuse}
 use Rattle.refusal.proofs.VerdictLaws.{refused-leaves, turned-back, let-pass, not-refused}
 use Rattle.refusal.proofs.GateLaws.{gate-passed}
 use Rattle.clock.specs.declared.SubWindowClock.{SubWindowClock}
-use Rattle.clock.specs.Clock.{Onward, nOf, isCount, tickOf, advanceOf}
+use Rattle.clock.specs.Clock.{Onward, isCount, tickOf, advanceOf}
 use Rattle.microscope.specs.declared.MicroCm.{MicroCm}
 use Rattle.microscope.specs.declared.SketchAnswer.{SketchAnswer}
 use Rattle.microscope.specs.Sketch.{keyCells, World, recorded, moved, updated, updatedAt, advanced}
-use Rattle.microscope.specs.Refusals.{keyFits, refuseSketch, refuseKey, refuseUnsound, judgedCells, sketchVerdict, sketchOutcome, sketchCall, world, updateVerdict, updateCall, updateAtVerdict, updateAtCall, advanceVerdict, advanceCall}
-use Rattle.microscope.specs.Workers.{Ready, Judged, Readable}
+use Rattle.microscope.specs.Refusals.{refuseSketch, refuseKey, refuseUnsound, judgedCells, sketchOutcome, sketchCall, world, updateVerdict, updateCall, updateAtVerdict, updateAtCall, advanceVerdict, advanceCall}
 use Rattle.microscope.proofs.ReadyLaws.{ready-of, keyed-ready}
 use Rattle.microscope.proofs.SketchGates.{sketch-gate}
 use Rattle.counting.specs.declared.Passage.{Passage}

@@ -1,5 +1,5 @@
 -- What a call has judged still holds between its two halves: a recording and a move keep the grid's length, and a step keeps a sound cell sound.
-use Prim.Native.Nat.{ℕ, suc, _+_, _-_, _*_, _≤_}
+use Prim.Native.Nat.{ℕ, suc, _-_}
 use mathlib.Core.Path.{_≡_, refl, sym, ap, _∙_, subst}
 use mathlib.Core.Bool.{Bool, true, false, cond}
 use mathlib.Core.List.{List, [], _∷_}
@@ -11,8 +11,8 @@ use Rattle.refusal.specs.declared.Verdict.the-variants.{Accepted, Unsound}
 use Rattle.clock.specs.declared.SubWindowClock.{SubWindowClock}
 use Rattle.clock.specs.Clock.{lengthOf, nOf}
 use Rattle.microscope.specs.declared.MicroCm.{MicroCm}
-use Rattle.microscope.specs.Sketch.{cellsOf, cellIndex, keyCells, allCells, World, insertEach, crossEach, recorded, moved}
-use Rattle.microscope.specs.Refusals.{allBelow, keyFits, judgedCells, sketchVerdict, world}
+use Rattle.microscope.specs.Sketch.{cellsOf, cellIndex, keyCells, allCells, World, recorded, moved}
+use Rattle.microscope.specs.Refusals.{allBelow, keyFits, world}
 use Rattle.microscope.specs.Audit.{firstUnsound}
 use Rattle.microscope.specs.Workers.{Ready, Judged, Readable}
 use Rattle.microscope.proofs.JudgedLaws.{judged-all}

@@ -1,24 +1,20 @@
 -- A recording and a move, as the code makes them: where n stays nothing crosses, and then the pass over the grid leaves it as it was. Assumes nothing.
-use Prim.Native.Nat.{ℕ, zero, suc, _+_, _-_, _*_, _^_, _≤_, _<_}
-use mathlib.Core.Path.{_≡_, refl, sym, ap, _∙_}
-use mathlib.Core.Bool.{Bool, true, false, cond}
-use mathlib.Core.List.{List, []}
+use Prim.Native.Nat.{ℕ, zero, suc, _-_, _*_, _^_, _≤_}
+use mathlib.Core.Path.{_≡_, refl, sym, _∙_}
+use mathlib.Core.List.{List}
 use native.Mathlib.Omega.{arith}
-use native.Mathlib.Nat.{sub-self}
-use lib.Dec.{eqb}
-use lib.ListN.{length, take-append-drop}
+use lib.ListN.{take-append-drop}
 use borrow.Author.Tests.{ne-eqb}
 use Rattle.laws.specs.Steps.{still}
 use Rattle.laws.specs.Passes.{eachOf}
 use Rattle.cell.specs.Cell.{depthOf}
 use Rattle.cell.specs.Crossing.{crossOf}
 use Rattle.clock.specs.declared.SubWindowClock.{SubWindowClock}
-use Rattle.clock.specs.Clock.{GoodLength, lengthOf, nOf}
+use Rattle.clock.specs.Clock.{GoodLength, nOf}
 use Rattle.microscope.specs.declared.MicroCm.{MicroCm}
 use Rattle.microscope.specs.declared.Passed.{Passed}
-use Rattle.microscope.specs.Sketch.{cellsOf, keyCells, allCells, crossCell, crossEach, insertEach, recorded, moved}
-use Rattle.microscope.specs.Refusals.{judgedCells}
-use Rattle.microscope.specs.Workers.{Ready, Judged, Readable, passOf}
+use Rattle.microscope.specs.Sketch.{cellsOf, keyCells, allCells, crossEach, insertEach, recorded, moved}
+use Rattle.microscope.specs.Workers.{Ready, Judged, passOf}
 use Rattle.microscope.proofs.AddressLaws.{cells-few}
 use Rattle.counting.specs.declared.Passage.{Passage}
 use Rattle.counting.specs.Workers.{Movable, worldOf, wentOn}
@@ -33,12 +29,8 @@ pub cross-none : (k : MicroCm) (n : ℕ) (g : List ℕ) (σ : ℕ) → crossEach
 unfolding crossEach
 cross-none k n g σ = each-none (k .params .t) (k .params .c) n (depthOf (k .params .t)) (cellsOf k) 0 g σ
 
--- A CLOCK as long as the sketch's own
 pub good-clock : (k : MicroCm) (size : ℕ) → Ready k size → GoodLength (k .clock)
 good-clock k size r = record { some = r .length-low; short = r .length-high }
-
-pub good-after : (k : MicroCm) (size : ℕ) → Ready k size → (clock : SubWindowClock) → lengthOf clock ≡ lengthOf (k .clock) → GoodLength clock
-good-after k size r clock e = record { some = rw e (r .length-low); short = rw e (r .length-high) }
 
 -- RECORDING
 module _ (p : Passage) (key g l : List ℕ) (n : ℕ) (passed : Passed) (en : n ≡ nOf (p .sketch .clock))
@@ -68,6 +60,3 @@ module _ (p : Passage) (clock : SubWindowClock) (g : List ℕ) (w : Movable (p .
 
 pub cross-few : (k : MicroCm) (size : ℕ) → Ready k size → (d : ℕ) → d ≤ cellsOf k * 4099 → d ≤ 2 ^ 36
 cross-few k size r d h = omega (arith, cells-few k size r)
-
-pub draws-fit : (a b : ℕ) → a ≤ 2 ^ 40 → b ≤ 2 ^ 36 → a + b < 2 ^ 64
-draws-fit a b h l = omega arith

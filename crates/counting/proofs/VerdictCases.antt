@@ -1,7 +1,7 @@
 -- The ways through a verdict on an item or a move: the sketch and the key, then the kind of the clock, then the cells. Assumes nothing.
 use Prim.Native.Nat.{ℕ}
-use mathlib.Core.Path.{_≡_, refl, sym, ap, _∙_}
-use mathlib.Core.Bool.{Bool, true, false, not, cond}
+use mathlib.Core.Path.{_≡_, refl, sym, _∙_}
+use mathlib.Core.Bool.{Bool, true, false, not}
 use mathlib.Core.List.{List, []}
 use lib.Dec.{eqb}
 use lib.ListN.{length}
@@ -88,9 +88,9 @@ module _ (k : MicroCm) (g : List ℕ) (after : SubWindowClock) (wrong : Bool) (v
     move-wrong h = sym (move-left ∙ rw h refl)
 
     module _ (right : wrong ≡ false) (rises : Bool) (er : rises ≡ not (eqb (nOf after) (nOf (k .clock)))) where
-      pub move-all : rises ≡ true → (u : Verdict) → u ≡ refuseUnsound k g (allCells k) Accepted → u ≡ moveVerdict k g after wrong
-      move-all h u e = e ∙ sym (move-left ∙ rw right (cells-all k g after rises er [] h))
-
-      pub move-none : rises ≡ false → v ≡ moveVerdict k g after wrong
+      pub move-none : not rises ≡ true → v ≡ moveVerdict k g after wrong
       unfolding firstUnsound
-      move-none h = let-pass v ok asked a ∙ sym (move-left ∙ rw right (cells-stay k g after rises er [] h))
+      move-none h = let-pass v ok asked a ∙ sym (move-left ∙ rw right (cells-stay k g after rises er [] (not-true rises h)))
+
+      pub move-all : not rises ≡ false → (u : Verdict) → u ≡ refuseUnsound k g (allCells k) Accepted → u ≡ moveVerdict k g after wrong
+      move-all h u e = e ∙ sym (move-left ∙ rw right (cells-all k g after rises er [] (not-false rises h)))

@@ -56,8 +56,8 @@ pub fn movement(sketch: MicroCm, grid: &[u8], after: SubWindowClock, wrong: bool
         return Verdict::Refused(8);
     }
     let clock = sketch.clock;
-    if crosses(clock, after) {
-        return microscope::judge::all_cells(sketch, grid);
+    if !crosses(clock, after) {
+        return verdict;
     }
-    verdict
+    microscope::judge::all_cells(sketch, grid)
 }

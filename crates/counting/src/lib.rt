@@ -3,7 +3,7 @@
 // A call judges first and writes after: a refused one leaves the sketch and every byte of the grid as they came.
 mod judge;
 pub mod recording;
-pub mod worker;
+mod worker;
 
 use microscope::MicroCm;
 use microscope::SketchAnswer;

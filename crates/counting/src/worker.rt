@@ -7,8 +7,7 @@ use microscope::MicroCm;
 use microscope::Passed;
 use rounding::Rounding;
 ghost use mathlib.Core.Path.{_≡_};
-ghost use Prim.Native.Nat.{_+_, _*_, _^_, _≤_};
-ghost use lib.ListN.{length};
+ghost use Prim.Native.Nat.{_+_, _^_, _≤_};
 ghost use Rattle.microscope.specs.Sketch.{recorded, moved};
 ghost use Rattle.microscope.specs.Workers.{Readable};
 ghost use Rattle.microscope.specs.Refusals.{world};
@@ -46,8 +45,8 @@ fn record_item(before: Passage, key: &[u32], grid: &mut [u8]) -> Passage
     let clock = sketch.clock;
     let rounding = sketch.rounding;
     let n = clock::worker::sub_window(clock);
-    let passed = recording::insert_each(sketch, key, grid, n, rounding.state);
-    went_on(before, clock, passed)
+    let inserted = recording::insert_each(sketch, key, grid, n, rounding.state);
+    went_on(before, clock, inserted)
 }
 
 // Within its sub-window the sketch takes the clock alone: no cell is looked at.
@@ -65,8 +64,9 @@ pub fn move_to(before: Passage, clock: SubWindowClock, grid: &mut [u8]) -> Passa
     if new == old {
         return went_on(before, clock, Passed { state, draws: 0 });
     }
-    let passed = recording::cross_each(sketch, grid, new, new - old, state);
-    went_on(before, clock, passed)
+    let begun = new - old;
+    let crossed = recording::cross_each(sketch, grid, new, begun, state);
+    went_on(before, clock, crossed)
 }
 
 // `update`: the item belongs to the sub-window that it finds.

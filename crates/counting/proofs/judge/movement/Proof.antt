@@ -19,14 +19,14 @@ returns-2 c = search (move-wrong, needs)
 crosses-requires : tie.Need-crosses-requires
 crosses-requires c κs = (search (move-clock, needs), search needs)
 
+returns-3 : tie.Need-returns-3
+returns-3 c = search (move-none, needs)
+
 all-cells-requires : tie.Need-all-cells-requires
 all-cells-requires c κs = search (move-ready, needs)
 
-returns-3 : tie.Need-returns-3
-returns-3 c = search (move-all, needs)
-
 returns-4 : tie.Need-returns-4
-returns-4 c = search (move-none, needs)
+returns-4 c = search (move-all, needs)
 
 pub movement-spec : {M : Type 1} → statement M
 movement-spec =
@@ -37,6 +37,6 @@ movement-spec =
     returns
     returns-2
     crosses-requires
-    all-cells-requires
     returns-3
+    all-cells-requires
     returns-4)

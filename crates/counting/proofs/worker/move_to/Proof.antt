@@ -16,8 +16,8 @@ went-on-requires c κs = search needs
 returns : tie.Need-returns
 returns c = (search (move-none, needs), search needs)
 
-sub-cross-each : tie.Need-sub-cross-each
-sub-cross-each c = search needs
+sub-begun : tie.Need-sub-begun
+sub-begun c = search needs
 
 cross-each-requires : tie.Need-cross-each-requires
 cross-each-requires c κs = (search needs, search (move-judged, needs), search needs)
@@ -39,7 +39,7 @@ move-to-spec =
     sub-window-requires-2
     went-on-requires
     returns
-    sub-cross-each
+    sub-begun
     cross-each-requires
     went-on-requires-2
     same-length
