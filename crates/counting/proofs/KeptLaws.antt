@@ -77,13 +77,13 @@ module _ (k : MicroCm) (key g : List ℕ) (clock : SubWindowClock) (item : Judge
   pub item-readable : Readable k key g
   item-readable = record { ready = ready; fits = item .fits; judged = key-judged (eqb (nOf clock) (nOf (k .clock))) (item .judged) }
 
-  move-judged : (stays : Bool) → Judged k g (cond stays (keyCells k 0 key) (allCells k)) → Judged k g (cond stays [] (allCells k))
+  cross-judged : (stays : Bool) → Judged k g (cond stays (keyCells k 0 key) (allCells k)) → Judged k g (cond stays [] (allCells k))
   unfolding firstUnsound
-  move-judged true w = refl
-  move-judged false w = w
+  cross-judged true w = refl
+  cross-judged false w = w
 
   pub item-movable : Movable k clock g
-  item-movable = record { ready = ready; as-long = item .as-long; grows = item .grows; judged = move-judged (eqb (nOf clock) (nOf (k .clock))) (item .judged) }
+  item-movable = record { ready = ready; as-long = item .as-long; grows = item .grows; judged = cross-judged (eqb (nOf clock) (nOf (k .clock))) (item .judged) }
 
   -- AFTER THE RECORDING
   abbrev after : World

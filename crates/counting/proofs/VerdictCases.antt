@@ -71,26 +71,26 @@ module _ (k : MicroCm) (key g : List ℕ) (after : SubWindowClock) (wrong : Bool
 
 -- NO ITEM
 module _ (k : MicroCm) (g : List ℕ) (after : SubWindowClock) (wrong : Bool) (v : Verdict) (ev : v ≡ sketchVerdict k g) (ok : Bool) (asked : ok ≡ isAccepted v) where
-  pub move-refused : not ok ≡ true → v ≡ moveVerdict k g after wrong
-  move-refused n = sym (gate-shut (refuseSketch k g) (sketch-gate k g) _ v ev (turned-back v ok asked n))
+  pub movement-refused : not ok ≡ true → v ≡ moveVerdict k g after wrong
+  movement-refused n = sym (gate-shut (refuseSketch k g) (sketch-gate k g) _ v ev (turned-back v ok asked n))
 
   module _ (a : not ok ≡ false) where
-    pub move-ready : Ready k (length g)
-    move-ready = ready-of k g (sym ev ∙ let-pass v ok asked a)
+    pub movement-ready : Ready k (length g)
+    movement-ready = ready-of k g (sym ev ∙ let-pass v ok asked a)
 
-    pub move-clock : GoodLength (k .clock)
-    move-clock = good-clock k (length g) move-ready
+    pub movement-clock : GoodLength (k .clock)
+    movement-clock = good-clock k (length g) movement-ready
 
-    move-left : moveVerdict k g after wrong ≡ refuse 8 wrong (refuseUnsound k g (judgedCells k after []) Accepted)
-    move-left = gate-open (refuseSketch k g) (sketch-gate k g) _ (sym ev ∙ let-pass v ok asked a)
+    movement-left : moveVerdict k g after wrong ≡ refuse 8 wrong (refuseUnsound k g (judgedCells k after []) Accepted)
+    movement-left = gate-open (refuseSketch k g) (sketch-gate k g) _ (sym ev ∙ let-pass v ok asked a)
 
-    pub move-wrong : wrong ≡ true → Refused 8 ≡ moveVerdict k g after wrong
-    move-wrong h = sym (move-left ∙ rw h refl)
+    pub movement-wrong : wrong ≡ true → Refused 8 ≡ moveVerdict k g after wrong
+    movement-wrong h = sym (movement-left ∙ rw h refl)
 
     module _ (right : wrong ≡ false) (rises : Bool) (er : rises ≡ not (eqb (nOf after) (nOf (k .clock)))) where
-      pub move-none : not rises ≡ true → v ≡ moveVerdict k g after wrong
+      pub movement-none : not rises ≡ true → v ≡ moveVerdict k g after wrong
       unfolding firstUnsound
-      move-none h = let-pass v ok asked a ∙ sym (move-left ∙ rw right (cells-stay k g after rises er [] (not-true rises h)))
+      movement-none h = let-pass v ok asked a ∙ sym (movement-left ∙ rw right (cells-stay k g after rises er [] (not-true rises h)))
 
-      pub move-all : not rises ≡ false → (u : Verdict) → u ≡ refuseUnsound k g (allCells k) Accepted → u ≡ moveVerdict k g after wrong
-      move-all h u e = e ∙ sym (move-left ∙ rw right (cells-all k g after rises er [] (not-false rises h)))
+      pub movement-all : not rises ≡ false → (u : Verdict) → u ≡ refuseUnsound k g (allCells k) Accepted → u ≡ moveVerdict k g after wrong
+      movement-all h u e = e ∙ sym (movement-left ∙ rw right (cells-all k g after rises er [] (not-false rises h)))

@@ -18,7 +18,7 @@ fn crosses(before: SubWindowClock, after: SubWindowClock) -> bool
     new != old
 }
 
-// An item for a sketch that takes the clock `after` by it.
+// An item for a sketch that takes the clock `after` by it; `wrong` if the call is for the other kind of clock.
 pub fn item(
     sketch: MicroCm,
     key: &[u32],
@@ -29,9 +29,9 @@ pub fn item(
     requires { ⌜ lengthOf after ≡ lengthOf (sketch .clock) ⌝ }
     ensures { λ r. ⌜ r ≡ itemVerdict sketch (now (key .entry)) (now (grid .entry)) after wrong ⌝ }
 {
-    let verdict = microscope::judge::keyed(sketch, key, grid);
-    if !verdict.accepted() {
-        return verdict;
+    let keyed = microscope::judge::keyed(sketch, key, grid);
+    if !keyed.accepted() {
+        return keyed;
     }
     if wrong {
         return Verdict::Refused(8);

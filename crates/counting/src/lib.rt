@@ -13,9 +13,9 @@ ghost use Rattle.microscope.specs.Refusals.{sketchOutcome, updateCall, updateAt
 ghost use Rattle.counting.specs.Workers.{answerOf};
 
 // A sketch on its way through a call, and how many draws the call has made so far.
-pub struct Passage {
-    pub sketch: MicroCm,
-    pub draws: u64,
+struct Passage {
+    sketch: MicroCm,
+    draws: u64,
 }
 
 fn answer(verdict: Verdict, passage: Passage) -> SketchAnswer

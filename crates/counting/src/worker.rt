@@ -9,8 +9,8 @@ use rounding::Rounding;
 ghost use mathlib.Core.Path.{_≡_};
 ghost use Prim.Native.Nat.{_+_, _^_, _≤_};
 ghost use Rattle.microscope.specs.Sketch.{recorded, moved};
-ghost use Rattle.microscope.specs.Workers.{Readable};
 ghost use Rattle.microscope.specs.Refusals.{world};
+ghost use Rattle.microscope.specs.Workers.{Readable};
 ghost use Rattle.counting.specs.Workers.{Movable, JudgedItem, worldOf, wentOn};
 
 // The sketch with another clock, and the random state that a pass over its grid left.

@@ -1,5 +1,5 @@
 -- `movement`: as for an item, without a key; and where n stays no cell is judged. Assumes nothing.
-use Rattle.counting.proofs.VerdictCases.{move-refused, move-ready, move-clock, move-wrong, move-all, move-none}
+use Rattle.counting.proofs.VerdictCases.{movement-refused, movement-ready, movement-clock, movement-wrong, movement-all, movement-none}
 use borrow.Author.Needs.{needs}
 use Rattle.counting.proofs.judge.movement.Statement.{statement}
 use Rattle.counting.proofs.judge.movement.Tie as tie
@@ -11,22 +11,22 @@ accepted-requires : tie.Need-accepted-requires
 accepted-requires c κs = search needs
 
 returns : tie.Need-returns
-returns c = search (move-refused, needs)
+returns c = search (movement-refused, needs)
 
 returns-2 : tie.Need-returns-2
-returns-2 c = search (move-wrong, needs)
+returns-2 c = search (movement-wrong, needs)
 
 crosses-requires : tie.Need-crosses-requires
-crosses-requires c κs = (search (move-clock, needs), search needs)
+crosses-requires c κs = (search (movement-clock, needs), search needs)
 
 returns-3 : tie.Need-returns-3
-returns-3 c = search (move-none, needs)
+returns-3 c = search (movement-none, needs)
 
 all-cells-requires : tie.Need-all-cells-requires
-all-cells-requires c κs = search (move-ready, needs)
+all-cells-requires c κs = search (movement-ready, needs)
 
 returns-4 : tie.Need-returns-4
-returns-4 c = search (move-all, needs)
+returns-4 c = search (movement-all, needs)
 
 pub movement-spec : {M : Type 1} → statement M
 movement-spec =
