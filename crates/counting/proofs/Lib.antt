@@ -1,3 +1,7 @@
 pub mod RecordingCases
 pub mod RecordingLoop
 pub mod CrossingPass
+pub mod PassageLaws
+pub mod VerdictCases
+pub mod KeptLaws
+pub mod CallLaws

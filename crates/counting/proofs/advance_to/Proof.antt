@@ -1,0 +1,54 @@
+-- `advance_to`: as `update_at` without an item: the clock alone is moved.
+use Rattle.counting.proofs.CallLaws.{time-movable, advance-refused, advance-done}
+use borrow.Author.Needs.{needs}
+use Rattle.counting.proofs.advance_to.Statement.{statement}
+use Rattle.counting.proofs.advance_to.Tie as tie
+
+advanced-requires : tie.Need-advanced-requires
+advanced-requires c κs = search needs
+
+is-count-requires : tie.Need-is-count-requires
+is-count-requires c κs = search needs
+
+movement-requires : tie.Need-movement-requires
+movement-requires c κs = search needs
+
+accepted-requires : tie.Need-accepted-requires
+accepted-requires c κs = search needs
+
+answer-requires : tie.Need-answer-requires
+answer-requires c κs = search needs
+
+same-length : tie.Need-same-length
+same-length c = search needs
+
+returns : tie.Need-returns
+returns c = search (advance-refused, needs)
+
+move-to-requires : tie.Need-move-to-requires
+move-to-requires c κs = (search (time-movable, needs), search needs)
+
+answer-requires-2 : tie.Need-answer-requires-2
+answer-requires-2 c κs = search needs
+
+same-length-2 : tie.Need-same-length-2
+same-length-2 c = search needs
+
+returns-2 : tie.Need-returns-2
+returns-2 c = search (advance-done, needs)
+
+pub advance-to-spec : {M : Type 1} → statement M
+advance-to-spec =
+    tie.close
+    (tie.spec
+    advanced-requires
+    is-count-requires
+    movement-requires
+    accepted-requires
+    answer-requires
+    same-length
+    returns
+    move-to-requires
+    answer-requires-2
+    same-length-2
+    returns-2)

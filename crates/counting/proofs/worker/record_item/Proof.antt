@@ -1,0 +1,25 @@
+-- `record_item`: an item of the present sub-window goes into each row, and the sketch keeps its clock. Assumes nothing.
+use Rattle.counting.proofs.PassageLaws.{record-done}
+use borrow.Author.Needs.{needs}
+use Rattle.counting.proofs.worker.record_item.Statement.{statement}
+use Rattle.counting.proofs.worker.record_item.Tie as tie
+
+sub-window-requires : tie.Need-sub-window-requires
+sub-window-requires c κs = search needs
+
+insert-each-requires : tie.Need-insert-each-requires
+insert-each-requires c κs = search needs
+
+went-on-requires : tie.Need-went-on-requires
+went-on-requires c κs = search needs
+
+same-length : tie.Need-same-length
+same-length c = search needs
+
+returns : tie.Need-returns
+returns c = (search (record-done, needs), search needs)
+
+pub record-item-spec : {M : Type 1} → statement M
+record-item-spec =
+    tie.close
+    (tie.spec sub-window-requires insert-each-requires went-on-requires same-length returns)

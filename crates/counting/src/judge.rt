@@ -1,0 +1,63 @@
+// Document 01, "Turning a call back", for the calls that count: the verdict of each, lowest number first. A call that crosses
+// would write every cell, so it judges every cell; one that stays in its sub-window judges those that it writes.
+use clock::SubWindowClock;
+use microscope::MicroCm;
+use refusal::Verdict;
+ghost use mathlib.Core.Path.{_≡_};
+ghost use mathlib.Core.Bool.{not};
+ghost use lib.Dec.{eqb};
+ghost use Rattle.clock.specs.Clock.{GoodLength, lengthOf, nOf};
+ghost use Rattle.counting.specs.Workers.{itemVerdict, moveVerdict};
+
+fn crosses(before: SubWindowClock, after: SubWindowClock) -> bool
+    requires { ⌜ GoodLength before × (lengthOf after ≡ lengthOf before) ⌝ }
+    ensures { λ r. ⌜ r ≡ not (eqb (nOf after) (nOf before)) ⌝ }
+{
+    let old = clock::worker::sub_window(before);
+    let new = clock::worker::sub_window(after);
+    new != old
+}
+
+// An item for a sketch that takes the clock `after` by it; `wrong` if the call is for the other kind of clock.
+pub fn item(
+    sketch: MicroCm,
+    key: &[u32],
+    grid: &[u8],
+    after: SubWindowClock,
+    wrong: bool,
+) -> Verdict
+    requires { ⌜ lengthOf after ≡ lengthOf (sketch .clock) ⌝ }
+    ensures { λ r. ⌜ r ≡ itemVerdict sketch (now (key .entry)) (now (grid .entry)) after wrong ⌝ }
+{
+    let keyed = microscope::judge::keyed(sketch, key, grid);
+    if !keyed.accepted() {
+        return keyed;
+    }
+    if wrong {
+        return Verdict::Refused(8);
+    }
+    let clock = sketch.clock;
+    if crosses(clock, after) {
+        return microscope::judge::all_cells(sketch, grid);
+    }
+    microscope::judge::key_cells(sketch, key, grid)
+}
+
+// No item: nothing is written within the sub-window.
+pub fn movement(sketch: MicroCm, grid: &[u8], after: SubWindowClock, wrong: bool) -> Verdict
+    requires { ⌜ lengthOf after ≡ lengthOf (sketch .clock) ⌝ }
+    ensures { λ r. ⌜ r ≡ moveVerdict sketch (now (grid .entry)) after wrong ⌝ }
+{
+    let verdict = microscope::judge::sketch(sketch, grid);
+    if !verdict.accepted() {
+        return verdict;
+    }
+    if wrong {
+        return Verdict::Refused(8);
+    }
+    let clock = sketch.clock;
+    if !crosses(clock, after) {
+        return verdict;
+    }
+    microscope::judge::all_cells(sketch, grid)
+}
