@@ -7,6 +7,7 @@ pub mod KeyCellLaws
 pub mod FigureLaws
 pub mod SketchGates
 pub mod ReadyLaws
+pub mod FreshLaws
 pub mod JudgeCases
 pub mod JudgeLoops
 pub mod GridLaws

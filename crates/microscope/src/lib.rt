@@ -2,6 +2,7 @@
 //
 // The grid is lent by the caller: rows * cols cells of `depth` bytes, by row, then column. A key is lent too: one column
 // for each row.
+mod fresh;
 pub mod grid;
 pub mod judge;
 
@@ -9,6 +10,8 @@ use cell::MicroParams;
 use clock::SubWindowClock;
 use refusal::Verdict;
 use rounding::Rounding;
+ghost use mathlib.Core.Path.{_≡_};
+ghost use Rattle.microscope.specs.Refusals.{sketchOutcome, freshCall};
 
 // The sketch without its grid. It goes into a call by value, and the one that comes back is the one to go on with.
 pub struct MicroCm {
@@ -70,4 +73,35 @@ pub struct AuditAnswer {
 pub struct Passed {
     pub state: u64,
     pub draws: u64,
+}
+
+impl MicroCm {
+    // A fresh sketch, and every byte of the lent grid 0. Any seed will do.
+    pub fn with_dimensions(
+        rows: usize,
+        cols: usize,
+        params: MicroParams,
+        clock: SubWindowClock,
+        seed: u64,
+        grid: &mut [u8],
+    ) -> SketchAnswer
+        ensures { λ r. ⌜ sketchOutcome r (now (grid .exit)) ≡ freshCall rows cols params clock seed (now (grid .entry)) ⌝ }
+    {
+        let verdict = fresh::judge(rows, cols, params, clock, grid.len());
+        if !verdict.accepted() {
+            return fresh::turned_back(verdict);
+        }
+        fresh::zero_all(grid);
+        SketchAnswer {
+            verdict,
+            sketch: MicroCm {
+                rows,
+                cols,
+                params,
+                clock: clock::worker::started(clock),
+                rounding: Rounding::new(seed),
+            },
+            draws: 0,
+        }
+    }
 }
