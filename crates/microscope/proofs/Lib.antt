@@ -8,6 +8,7 @@ pub mod FigureLaws
 pub mod SketchGates
 pub mod ReadyLaws
 pub mod FreshLaws
+pub mod BucketLaws
 pub mod JudgeCases
 pub mod JudgeLoops
 pub mod GridLaws

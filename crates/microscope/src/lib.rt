@@ -11,7 +11,7 @@ use clock::SubWindowClock;
 use refusal::Verdict;
 use rounding::Rounding;
 ghost use mathlib.Core.Path.{_≡_};
-ghost use Rattle.microscope.specs.Refusals.{sketchOutcome, freshCall};
+ghost use Rattle.microscope.specs.Refusals.{sketchOutcome, freshCall, bucketVerdict, bucketCall};
 
 // The sketch without its grid. It goes into a call by value, and the one that comes back is the one to go on with.
 pub struct MicroCm {
@@ -104,4 +104,35 @@ impl MicroCm {
             draws: 0,
         }
     }
+}
+
+// 7 for a row or column out of range. No cell is judged.
+pub fn bucket_check(sketch: MicroCm, row: usize, col: usize, grid: &[u8]) -> Verdict
+    ensures { λ r. ⌜ r ≡ bucketVerdict sketch row col (now (grid .entry)) ⌝ }
+{
+    let verdict = judge::sketch(sketch, grid);
+    if !verdict.accepted() {
+        return verdict;
+    }
+    if row >= sketch.rows {
+        return Verdict::Refused(7);
+    }
+    if col >= sketch.cols {
+        return Verdict::Refused(7);
+    }
+    verdict
+}
+
+// That cell's own bytes of the lent grid; none if refused, and `bucket_check` says by which number.
+pub fn bucket_slice(sketch: MicroCm, row: usize, col: usize, grid: &[u8]) -> &[u8]
+    ensures { λ r. ⌜ now r ≡ bucketCall sketch row col (now (grid .entry)) ⌝ }
+{
+    let verdict = bucket_check(sketch, row, col, grid);
+    if !verdict.accepted() {
+        return &grid[0..0];
+    }
+    let params = sketch.params;
+    let start = grid::start_of(sketch, grid.len(), grid::cell_index(sketch, row, col));
+    let end = start + cell::layout::depth(params.t);
+    &grid[start..end]
 }
