@@ -9,6 +9,8 @@ pub mod SketchGates
 pub mod ReadyLaws
 pub mod FreshLaws
 pub mod BucketLaws
+pub mod AuditLaws
+pub mod HighestLaws
 pub mod JudgeCases
 pub mod JudgeLoops
 pub mod GridLaws

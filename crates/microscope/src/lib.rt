@@ -4,6 +4,7 @@
 // for each row.
 mod fresh;
 pub mod grid;
+mod highest;
 pub mod judge;
 
 use cell::MicroParams;
@@ -11,7 +12,7 @@ use clock::SubWindowClock;
 use refusal::Verdict;
 use rounding::Rounding;
 ghost use mathlib.Core.Path.{_≡_};
-ghost use Rattle.microscope.specs.Refusals.{sketchOutcome, freshCall, bucketVerdict, bucketCall};
+ghost use Rattle.microscope.specs.Refusals.{sketchOutcome, freshCall, bucketVerdict, bucketCall, highestCall, auditCall};
 
 // The sketch without its grid. It goes into a call by value, and the one that comes back is the one to go on with.
 pub struct MicroCm {
@@ -58,7 +59,7 @@ pub struct HighestAnswer {
 }
 
 // What an audit finds: the index is row * cols + column.
-pub enum Audit {
+pub enum Finding {
     Sound,
     Unsound(usize),
 }
@@ -66,7 +67,7 @@ pub enum Audit {
 // `Sound` if refused: look at the verdict first.
 pub struct AuditAnswer {
     pub verdict: Verdict,
-    pub audit: Audit,
+    pub audit: Finding,
 }
 
 // What a pass over cells returns: the random state after it, and how many draws it made.
@@ -135,4 +136,42 @@ pub fn bucket_slice(sketch: MicroCm, row: usize, col: usize, grid: &[u8]) -> &[u
     let start = grid::start_of(sketch, grid.len(), grid::cell_index(sketch, row, col));
     let end = start + cell::layout::depth(params.t);
     &grid[start..end]
+}
+
+// The present highest zoom of any cell. Every cell is judged first: an unsound one's zoom says nothing.
+pub fn max_zoom(sketch: MicroCm, grid: &[u8]) -> HighestAnswer
+    ensures { λ r. ⌜ r ≡ highestCall sketch (now (grid .entry)) ⌝ }
+{
+    let verdict = highest::judge(sketch, grid);
+    if !verdict.accepted() {
+        return HighestAnswer { verdict, zoom: 0 };
+    }
+    HighestAnswer {
+        verdict,
+        zoom: highest::zoom(sketch, grid),
+    }
+}
+
+// Whether every cell is sound, and if not, the first that is unsound in grid order.
+pub fn audit(sketch: MicroCm, grid: &[u8]) -> AuditAnswer
+    ensures { λ r. ⌜ r ≡ auditCall sketch (now (grid .entry)) ⌝ }
+{
+    let verdict = judge::sketch(sketch, grid);
+    if !verdict.accepted() {
+        return AuditAnswer {
+            verdict,
+            audit: Finding::Sound,
+        };
+    }
+    let cells = judge::all_cells(sketch, grid);
+    if cells.accepted() {
+        return AuditAnswer {
+            verdict,
+            audit: Finding::Sound,
+        };
+    }
+    AuditAnswer {
+        verdict,
+        audit: Finding::Unsound(cells.index()),
+    }
 }
