@@ -19,7 +19,6 @@ use Rattle.cell.specs.Cell.{depthOf}
 use Rattle.clock.specs.declared.SubWindowClock.{SubWindowClock}
 use Rattle.clock.specs.Clock.{startOf}
 use Rattle.microscope.specs.declared.MicroCm.{MicroCm}
-use Rattle.microscope.specs.declared.SketchAnswer.{SketchAnswer}
 use Rattle.microscope.specs.Sketch.{World, freshSketch, freshGrid, gridBytes}
 use Rattle.microscope.specs.Refusals.{refuseSettings, sketchOutcome, noSketch, world, freshCall}
 use Rattle.microscope.proofs.SettingsLaws.{GoodSettings, not-false, good-settings}
@@ -75,11 +74,11 @@ module _ (rows cols : ℕ) (p : MicroParams) (clock : SubWindowClock) where
     abbrev made : MicroCm
     made = freshSketch rows cols p clock seed
 
-    pub fresh-refused : (r : SketchAnswer) → r ≡ record { verdict = v; sketch = noSketch; draws = 0 } → not ok ≡ true → sketchOutcome r g ≡ freshCall rows cols p clock seed g
+    pub fresh-refused : (none : MicroCm) → none ≡ noSketch → not ok ≡ true → sketchOutcome (record { verdict = v; sketch = none; draws = 0 }) g ≡ freshCall rows cols p clock seed g
     unfolding freshCall
-    fresh-refused r er n =
+    fresh-refused none en n =
         let left : world noSketch g ≡ whenAccepted v (world made (freshGrid made)) (world noSketch g) = sym (refused-leaves v (world made (freshGrid made)) (world noSketch g) (turned-back v ok asked n)) in
-        rw (er, ← ev) (ap (λ (w : World). sketchOutcome (record { verdict = v; sketch = w .sketch; draws = w .draws }) (w .grid)) left)
+        rw (en, ← ev) (ap (λ (w : World). sketchOutcome (record { verdict = v; sketch = w .sketch; draws = w .draws }) (w .grid)) left)
 
     module _ (a : not ok ≡ false) where
       room : length g ≡ gridBytes made

@@ -11,6 +11,7 @@ pub mod FreshLaws
 pub mod BucketLaws
 pub mod AuditLaws
 pub mod HighestLaws
+pub mod ReadingLaws
 pub mod JudgeCases
 pub mod JudgeLoops
 pub mod GridLaws

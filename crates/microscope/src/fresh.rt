@@ -1,6 +1,5 @@
-// What a fresh start is made of: its verdict, the grid of zeros, and what is handed back where there is no sketch.
+// What a fresh start is made of: its verdict, the grid of zeros, and what is handed back in place of a sketch.
 use crate::MicroCm;
-use crate::SketchAnswer;
 use crate::judge;
 use cell::MicroParams;
 use clock::SubWindowClock;
@@ -47,21 +46,17 @@ pub fn zero_all(grid: &mut [u8])
 }
 
 // No sketch: every call refuses this one.
-pub fn turned_back(verdict: Verdict) -> SketchAnswer
-    ensures { λ r. ⌜ r ≡ record { verdict = verdict; sketch = noSketch; draws = 0 } ⌝ }
+pub fn no_sketch() -> MicroCm
+    ensures { λ r. ⌜ r ≡ noSketch ⌝ }
 {
-    SketchAnswer {
-        verdict,
-        sketch: MicroCm {
-            rows: 0,
-            cols: 0,
-            params: MicroParams { t: 0, c: 0 },
-            clock: SubWindowClock::CountBased {
-                items_per_sub_window: 0,
-                seen: 0,
-            },
-            rounding: Rounding { state: 0 },
+    MicroCm {
+        rows: 0,
+        cols: 0,
+        params: MicroParams { t: 0, c: 0 },
+        clock: SubWindowClock::CountBased {
+            items_per_sub_window: 0,
+            seen: 0,
         },
-        draws: 0,
+        rounding: Rounding { state: 0 },
     }
 }

@@ -2,7 +2,7 @@
 //
 // The grid is lent by the caller: rows * cols cells of `depth` bytes, by row, then column. A key is lent too: one column
 // for each row.
-mod fresh;
+pub mod fresh;
 pub mod grid;
 mod highest;
 pub mod judge;
@@ -90,7 +90,11 @@ impl MicroCm {
     {
         let verdict = fresh::judge(rows, cols, params, clock, grid.len());
         if !verdict.accepted() {
-            return fresh::turned_back(verdict);
+            return SketchAnswer {
+                verdict,
+                sketch: fresh::no_sketch(),
+                draws: 0,
+            };
         }
         fresh::zero_all(grid);
         SketchAnswer {

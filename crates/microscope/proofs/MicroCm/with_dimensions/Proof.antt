@@ -10,8 +10,8 @@ judge-requires c κs = search needs
 accepted-requires : tie.Need-accepted-requires
 accepted-requires c κs = search needs
 
-turned-back-requires : tie.Need-turned-back-requires
-turned-back-requires c κs = search needs
+no-sketch-requires : tie.Need-no-sketch-requires
+no-sketch-requires c κs = search needs
 
 returns : tie.Need-returns
 returns c = search (fresh-refused, needs)
@@ -37,7 +37,7 @@ with-dimensions-spec =
     (tie.spec
     judge-requires
     accepted-requires
-    turned-back-requires
+    no-sketch-requires
     returns
     zero-all-requires
     started-requires
