@@ -7,6 +7,11 @@ pub mod KeyCellLaws
 pub mod FigureLaws
 pub mod SketchGates
 pub mod ReadyLaws
+pub mod FreshLaws
+pub mod BucketLaws
+pub mod AuditLaws
+pub mod HighestLaws
+pub mod ReadingLaws
 pub mod JudgeCases
 pub mod JudgeLoops
 pub mod GridLaws

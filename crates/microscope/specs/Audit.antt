@@ -6,8 +6,8 @@ use Rattle.laws.specs.Sums.{largest}
 use Rattle.cell.specs.Cell.{zoomOf, soundOf}
 use Rattle.refusal.specs.declared.Verdict.the-variants.{Unsound}
 use Rattle.microscope.specs.declared.MicroCm.{MicroCm}
-use Rattle.microscope.specs.declared.Audit.{Audit}
-use Rattle.microscope.specs.declared.Audit.the-variants as audit
+use Rattle.microscope.specs.declared.Finding.{Finding}
+use Rattle.microscope.specs.declared.Finding.the-variants as finding
 use Rattle.microscope.specs.Sketch.{cellsOf, allCells, cellOf}
 
 -- the first unsound cell of a list of cells, with what is said where there is none
@@ -17,8 +17,8 @@ firstUnsound found none k g (j ∷ js) =
     cond (soundOf (k .params .t) (k .params .c) (cellOf k g j)) (firstUnsound found none k g js) (found j)
 
 -- AUDIT: sound, or the index of the first unsound cell in grid order
-abbrev pub auditOf : MicroCm → List ℕ → Audit
-auditOf k g = firstUnsound audit.Unsound audit.Sound k g (allCells k)
+abbrev pub auditOf : MicroCm → List ℕ → Finding
+auditOf k g = firstUnsound finding.Unsound finding.Sound k g (allCells k)
 
 -- the present highest zoom of any cell
 unfoldable pub highestZoom : MicroCm → List ℕ → ℕ

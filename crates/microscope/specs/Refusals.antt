@@ -24,7 +24,7 @@ use Rattle.microscope.specs.declared.ReadingAnswer.{ReadingAnswer}
 use Rattle.microscope.specs.declared.MeanAnswer.{MeanAnswer}
 use Rattle.microscope.specs.declared.HighestAnswer.{HighestAnswer}
 use Rattle.microscope.specs.declared.AuditAnswer.{AuditAnswer}
-use Rattle.microscope.specs.declared.Audit.the-variants as audit
+use Rattle.microscope.specs.declared.Finding.the-variants as finding
 use Rattle.microscope.specs.Sketch.{gridBytes, cellIndex, cellOf, keyCells, allCells, freshSketch, freshGrid, World, updated, advanced, updatedAt}
 use Rattle.microscope.specs.Figures.{overOf, underOf, meanOf, hasOldest, readingOf}
 use Rattle.microscope.specs.Merge.{merged}
@@ -183,7 +183,7 @@ abbrev pub sketchVerdict : MicroCm → List ℕ → Verdict
 sketchVerdict k g = refuseSketch k g Accepted
 
 unfoldable pub auditCall : MicroCm → List ℕ → AuditAnswer
-auditCall k g = record { verdict = sketchVerdict k g; audit = whenAccepted (sketchVerdict k g) (auditOf k g) audit.Sound }
+auditCall k g = record { verdict = sketchVerdict k g; audit = whenAccepted (sketchVerdict k g) (auditOf k g) finding.Sound }
 
 -- MERGE
 -- 1 to 6 for either sketch: the lower number of the two

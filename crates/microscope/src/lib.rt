@@ -2,13 +2,17 @@
 //
 // The grid is lent by the caller: rows * cols cells of `depth` bytes, by row, then column. A key is lent too: one column
 // for each row.
+pub mod fresh;
 pub mod grid;
+mod highest;
 pub mod judge;
 
 use cell::MicroParams;
 use clock::SubWindowClock;
 use refusal::Verdict;
 use rounding::Rounding;
+ghost use mathlib.Core.Path.{_≡_};
+ghost use Rattle.microscope.specs.Refusals.{sketchOutcome, freshCall, bucketVerdict, bucketCall, highestCall, auditCall};
 
 // The sketch without its grid. It goes into a call by value, and the one that comes back is the one to go on with.
 pub struct MicroCm {
@@ -55,7 +59,7 @@ pub struct HighestAnswer {
 }
 
 // What an audit finds: the index is row * cols + column.
-pub enum Audit {
+pub enum Finding {
     Sound,
     Unsound(usize),
 }
@@ -63,11 +67,115 @@ pub enum Audit {
 // `Sound` if refused: look at the verdict first.
 pub struct AuditAnswer {
     pub verdict: Verdict,
-    pub audit: Audit,
+    pub audit: Finding,
 }
 
 // What a pass over cells returns: the random state after it, and how many draws it made.
 pub struct Passed {
     pub state: u64,
     pub draws: u64,
+}
+
+impl MicroCm {
+    // A fresh sketch, and every byte of the lent grid 0. Any seed will do.
+    pub fn with_dimensions(
+        rows: usize,
+        cols: usize,
+        params: MicroParams,
+        clock: SubWindowClock,
+        seed: u64,
+        grid: &mut [u8],
+    ) -> SketchAnswer
+        ensures { λ r. ⌜ sketchOutcome r (now (grid .exit)) ≡ freshCall rows cols params clock seed (now (grid .entry)) ⌝ }
+    {
+        let verdict = fresh::judge(rows, cols, params, clock, grid.len());
+        if !verdict.accepted() {
+            return SketchAnswer {
+                verdict,
+                sketch: fresh::no_sketch(),
+                draws: 0,
+            };
+        }
+        fresh::zero_all(grid);
+        SketchAnswer {
+            verdict,
+            sketch: MicroCm {
+                rows,
+                cols,
+                params,
+                clock: clock::worker::started(clock),
+                rounding: Rounding::new(seed),
+            },
+            draws: 0,
+        }
+    }
+}
+
+// 7 for a row or column out of range. No cell is judged.
+pub fn bucket_check(sketch: MicroCm, row: usize, col: usize, grid: &[u8]) -> Verdict
+    ensures { λ r. ⌜ r ≡ bucketVerdict sketch row col (now (grid .entry)) ⌝ }
+{
+    let verdict = judge::sketch(sketch, grid);
+    if !verdict.accepted() {
+        return verdict;
+    }
+    if row >= sketch.rows {
+        return Verdict::Refused(7);
+    }
+    if col >= sketch.cols {
+        return Verdict::Refused(7);
+    }
+    verdict
+}
+
+// That cell's own bytes of the lent grid; none if refused, and `bucket_check` says by which number.
+pub fn bucket_slice(sketch: MicroCm, row: usize, col: usize, grid: &[u8]) -> &[u8]
+    ensures { λ r. ⌜ now r ≡ bucketCall sketch row col (now (grid .entry)) ⌝ }
+{
+    let verdict = bucket_check(sketch, row, col, grid);
+    if !verdict.accepted() {
+        return &grid[0..0];
+    }
+    let params = sketch.params;
+    let start = grid::start_of(sketch, grid.len(), grid::cell_index(sketch, row, col));
+    let end = start + cell::layout::depth(params.t);
+    &grid[start..end]
+}
+
+// The present highest zoom of any cell. Every cell is judged first: an unsound one's zoom says nothing.
+pub fn max_zoom(sketch: MicroCm, grid: &[u8]) -> HighestAnswer
+    ensures { λ r. ⌜ r ≡ highestCall sketch (now (grid .entry)) ⌝ }
+{
+    let verdict = highest::judge(sketch, grid);
+    if !verdict.accepted() {
+        return HighestAnswer { verdict, zoom: 0 };
+    }
+    HighestAnswer {
+        verdict,
+        zoom: highest::zoom(sketch, grid),
+    }
+}
+
+// Whether every cell is sound, and if not, the first that is unsound in grid order.
+pub fn audit(sketch: MicroCm, grid: &[u8]) -> AuditAnswer
+    ensures { λ r. ⌜ r ≡ auditCall sketch (now (grid .entry)) ⌝ }
+{
+    let verdict = judge::sketch(sketch, grid);
+    if !verdict.accepted() {
+        return AuditAnswer {
+            verdict,
+            audit: Finding::Sound,
+        };
+    }
+    let cells = judge::all_cells(sketch, grid);
+    if cells.accepted() {
+        return AuditAnswer {
+            verdict,
+            audit: Finding::Sound,
+        };
+    }
+    AuditAnswer {
+        verdict,
+        audit: Finding::Unsound(cells.index()),
+    }
 }

@@ -8,7 +8,7 @@ use Rattle.laws.specs.Figure.{figure}
 use Rattle.clock.specs.Clock.{nOf}
 use Rattle.microscope.specs.declared.MicroCm.{MicroCm}
 use Rattle.reading.specs.declared.Exact.{Exact}
-use Rattle.reading.specs.declared.Estimate.{Estimate}
+use Rattle.reading.specs.declared.Estimated.{Estimated}
 use Rattle.microscope.specs.Figures.{leastIn, sumBack, underOf, oldestOf}
 use Rattle.reading.specs.Workers.{exactly, youngEstimate, agedEstimate, estimateOf}
 use Rattle.microscope.proofs.FigureLaws.{over-young, over-aged, linear-young, linear-aged}
@@ -26,12 +26,12 @@ module _ (k : MicroCm) (g key : List ℕ) (n t : ℕ) (en : n ≡ nOf (k .clock)
     under-is : u ≡ exactly (underOf k g key)
     under-is = eu ∙ rw et refl
 
-    pub young-is : (fraction : Float) (r : Estimate) → n < t → r ≡ youngEstimate u fraction → r ≡ estimateOf k g key fraction
+    pub young-is : (fraction : Float) (r : Estimated) → n < t → r ≡ youngEstimate u fraction → r ≡ estimateOf k g key fraction
     young-is fraction r h e =
         let h' : nOf (k .clock) < k .params .t = omega arith in
         e ∙ rw (under-is, over-young k g key some h', linear-young k g key some fraction h') refl
 
-    pub old-is : (oldest : ℕ) (fraction : Float) (r : Estimate) → t ≤ n → oldest ≡ leastIn k g key (n - t) → r ≡ agedEstimate (u .whole) oldest fraction → r ≡ estimateOf k g key fraction
+    pub old-is : (oldest : ℕ) (fraction : Float) (r : Estimated) → t ≤ n → oldest ≡ leastIn k g key (n - t) → r ≡ agedEstimate (u .whole) oldest fraction → r ≡ estimateOf k g key fraction
     old-is oldest fraction r h e q =
         let h' : k .params .t ≤ nOf (k .clock) = omega arith in
         let o : oldest ≡ oldestOf k g key = e ∙ rw (en, et) refl in

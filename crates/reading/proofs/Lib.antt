@@ -2,3 +2,4 @@ pub mod FigureCases
 pub mod FigureLoops
 pub mod FigureBounds
 pub mod EstimateCases
+pub mod ReadLaws

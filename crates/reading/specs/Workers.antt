@@ -9,7 +9,7 @@ use Rattle.microscope.specs.declared.MicroCm.{MicroCm}
 use Rattle.microscope.specs.Figures.{overOf, underOf, readingOf}
 use Rattle.microscope.specs.Workers.{rowUnit}
 use Rattle.reading.specs.declared.Exact.{Exact}
-use Rattle.reading.specs.declared.Estimate.{Estimate}
+use Rattle.reading.specs.declared.Estimated.{Estimated}
 
 -- the units of the key's cells, in the first places of a list
 abbrev pub Units : MicroCm → List ℕ → List ℕ → ℕ → List ℕ → Type 0
@@ -20,16 +20,16 @@ abbrev pub exactly : ℕ → Exact
 exactly n = record { whole = n; value = figure n }
 
 -- all figures of a key
-abbrev pub estimateOf : MicroCm → List ℕ → List ℕ → Float → Estimate
+abbrev pub estimateOf : MicroCm → List ℕ → List ℕ → Float → Estimated
 estimateOf k g key fraction = record { reading = readingOf k g key fraction; over = overOf k g key; under = underOf k g key }
 
 -- below n = t the three figures are one
-abbrev pub youngEstimate : Exact → Float → Estimate
+abbrev pub youngEstimate : Exact → Float → Estimated
 youngEstimate u fraction =
     record { reading = record { over = u .value; under = u .value; linear = u .value; fraction = fraction }; over = u .whole; under = u .whole }
 
 -- Under, and the oldest term beside it
-abbrev pub agedEstimate : ℕ → ℕ → Float → Estimate
+abbrev pub agedEstimate : ℕ → ℕ → Float → Estimated
 agedEstimate under oldest fraction =
     record {
       reading = record {

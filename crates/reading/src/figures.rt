@@ -1,6 +1,6 @@
 // Document 01, "Figures": per sub-window the minimum across rows first, the sum over sub-windows after, so that a row
 // which another key inflates in one sub-window does not count there. Callers have judged the key's cells.
-use crate::Estimate;
+use crate::Estimated;
 use crate::Exact;
 use microscope::MicroCm;
 use microscope::Reading;
@@ -11,7 +11,7 @@ ghost use lib.ListN.{length};
 ghost use Rattle.laws.specs.Figure.{figure};
 ghost use Rattle.cell.specs.Cell.{depthOf, shutterOf, unitOf};
 ghost use Rattle.clock.specs.Clock.{nOf};
-ghost use Rattle.microscope.specs.Figures.{itemsIn, rowItems, leastIn, sumBack};
+ghost use Rattle.microscope.specs.Figures.{itemsIn, rowItems, leastIn, sumBack, underOf};
 ghost use Rattle.microscope.specs.Workers.{Readable, rowUnit};
 ghost use Rattle.reading.specs.Workers.{Units, exactly, youngEstimate, agedEstimate, estimateOf};
 
@@ -143,11 +143,11 @@ fn sum_back(sketch: MicroCm, grid: &[u8], key: &[u32], units: &[u64], n: u64, mo
 }
 
 // No sub-window has left the window yet: the three figures are one.
-fn below_window(under: Exact, fraction: f64) -> Estimate
+fn below_window(under: Exact, fraction: f64) -> Estimated
     ensures { λ r. ⌜ r ≡ youngEstimate under fraction ⌝ }
 {
     let value = under.value;
-    Estimate {
+    Estimated {
         reading: Reading {
             over: value,
             under: value,
@@ -160,12 +160,12 @@ fn below_window(under: Exact, fraction: f64) -> Estimate
 }
 
 // The oldest sub-window counts whole, not at all, or by the fraction of it that is still inside.
-fn with_oldest(under: Exact, oldest: u64, fraction: f64) -> Estimate
+fn with_oldest(under: Exact, oldest: u64, fraction: f64) -> Estimated
     requires { ⌜ (under .value ≡ figure (under .whole)) × (under .whole + oldest ≤ 2 ^ 53) ⌝ }
     ensures { λ r. ⌜ r ≡ agedEstimate (under .whole) oldest fraction ⌝ }
 {
     let over = plus(under, oldest);
-    Estimate {
+    Estimated {
         reading: Reading {
             over: over.value,
             under: under.value,
@@ -184,7 +184,7 @@ fn estimate_from(
     key: &[u32],
     units: &[u64],
     fraction: f64,
-) -> Estimate
+) -> Estimated
     requires { ⌜ Readable sketch (now key) (now grid) × (length (now units) ≡ 128) ⌝ }
     requires { ⌜ Units sketch (now grid) (now key) (sketch .rows) (now units) ⌝ }
     ensures { λ r. ⌜ r ≡ estimateOf sketch (now (grid .entry)) (now (key .entry)) fraction ⌝ }
@@ -211,7 +211,7 @@ fn estimate_with(
     key: &[u32],
     units: &mut [u64],
     fraction: f64,
-) -> Estimate
+) -> Estimated
     requires { ⌜ Readable sketch (now key) (now grid) × (length (now units) ≡ 128) ⌝ }
     ensures { λ r. ⌜ r ≡ estimateOf sketch (now (grid .entry)) (now (key .entry)) fraction ⌝ }
 {
@@ -219,10 +219,31 @@ fn estimate_with(
     estimate_from(sketch, grid, key, &units[..], fraction)
 }
 
-pub fn estimate(sketch: MicroCm, grid: &[u8], key: &[u32], fraction: f64) -> Estimate
+pub fn estimate(sketch: MicroCm, grid: &[u8], key: &[u32], fraction: f64) -> Estimated
     requires { ⌜ Readable sketch (now key) (now grid) ⌝ }
     ensures { λ r. ⌜ r ≡ estimateOf sketch (now (grid .entry)) (now (key .entry)) fraction ⌝ }
 {
     let mut units = [0u64; 128];
     estimate_with(sketch, grid, key, &mut units, fraction)
+}
+
+// Under alone; the units are found into the buffer that is lent.
+fn under_with(sketch: MicroCm, grid: &[u8], key: &[u32], units: &mut [u64]) -> u64
+    requires { ⌜ Readable sketch (now key) (now grid) × (length (now units) ≡ 128) ⌝ }
+    ensures { λ r. ⌜ r ≡ underOf sketch (now (grid .entry)) (now (key .entry)) ⌝ }
+{
+    fill_units(sketch, grid, key, units);
+    let params = sketch.params;
+    let clock = sketch.clock;
+    let n = clock::worker::sub_window(clock);
+    let sum = sum_back(sketch, grid, key, &units[..], n, params.t as u64 - 1);
+    sum.whole
+}
+
+pub fn under(sketch: MicroCm, grid: &[u8], key: &[u32]) -> u64
+    requires { ⌜ Readable sketch (now key) (now grid) ⌝ }
+    ensures { λ r. ⌜ r ≡ underOf sketch (now (grid .entry)) (now (key .entry)) ⌝ }
+{
+    let mut units = [0u64; 128];
+    under_with(sketch, grid, key, &mut units)
 }

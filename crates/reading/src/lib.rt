@@ -1,7 +1,14 @@
 // Document 01, "Figures": what a sketch says of a key.
 pub mod figures;
+mod judge;
 
+use microscope::MeanAnswer;
+use microscope::MicroCm;
 use microscope::Reading;
+use microscope::ReadingAnswer;
+use refusal::Verdict;
+ghost use mathlib.Core.Path.{_≡_};
+ghost use Rattle.microscope.specs.Refusals.{noReading, readCall, readWithCall, meanCall};
 
 // A whole number below 2^53 and the same number as f64.
 pub struct Exact {
@@ -10,8 +17,75 @@ pub struct Exact {
 }
 
 // A reading beside the same figures as whole numbers.
-pub struct Estimate {
+pub struct Estimated {
     pub reading: Reading,
     pub over: u64,
     pub under: u64,
+}
+
+fn turned_back(verdict: Verdict) -> ReadingAnswer
+    ensures { λ r. ⌜ r ≡ record { verdict = verdict; reading = noReading; over = 0; under = 0 } ⌝ }
+{
+    ReadingAnswer {
+        verdict,
+        reading: Reading {
+            over: 0.0,
+            under: 0.0,
+            linear: 0.0,
+            fraction: 0.0,
+        },
+        over: 0,
+        under: 0,
+    }
+}
+
+fn told(verdict: Verdict, figures: Estimated) -> ReadingAnswer
+    ensures { λ r. ⌜ r ≡ record { verdict = verdict; reading = figures .reading; over = figures .over; under = figures .under } ⌝ }
+{
+    let reading = figures.reading;
+    ReadingAnswer {
+        verdict,
+        reading,
+        over: figures.over,
+        under: figures.under,
+    }
+}
+
+// The figures of a key, Linear by the clock's fraction.
+pub fn estimate(sketch: MicroCm, key: &[u32], grid: &[u8]) -> ReadingAnswer
+    ensures { λ r. ⌜ r ≡ readCall sketch (now (key .entry)) (now (grid .entry)) ⌝ }
+{
+    let verdict = judge::read(sketch, key, grid);
+    if !verdict.accepted() {
+        return turned_back(verdict);
+    }
+    let clock = sketch.clock;
+    let fraction = clock::worker::fraction(clock);
+    told(verdict, figures::estimate(sketch, grid, key, fraction))
+}
+
+// The figures of a key, Linear by a given fraction.
+pub fn estimate_with(sketch: MicroCm, key: &[u32], fraction: f64, grid: &[u8]) -> ReadingAnswer
+    ensures { λ r. ⌜ r ≡ readWithCall sketch (now (key .entry)) fraction (now (grid .entry)) ⌝ }
+{
+    let verdict = judge::read_with(sketch, key, fraction, grid);
+    if !verdict.accepted() {
+        return turned_back(verdict);
+    }
+    told(verdict, figures::estimate(sketch, grid, key, fraction))
+}
+
+// Under for each of the t sub-windows that it covers, rounded down.
+pub fn mean(sketch: MicroCm, key: &[u32], grid: &[u8]) -> MeanAnswer
+    ensures { λ r. ⌜ r ≡ meanCall sketch (now (key .entry)) (now (grid .entry)) ⌝ }
+{
+    let verdict = judge::read(sketch, key, grid);
+    if !verdict.accepted() {
+        return MeanAnswer { verdict, mean: 0 };
+    }
+    let params = sketch.params;
+    MeanAnswer {
+        verdict,
+        mean: figures::under(sketch, grid, key) / params.t as u64,
+    }
 }
