@@ -14,7 +14,7 @@ use Rattle.clock.proofs.ClockLaws.{Keeps, tick-keeps, advance-keeps, start-keep
 use Rattle.microscope.specs.Sketch.{World, recorded, moved}
 use Rattle.microscope.specs.Refusals.{keyFits, world}
 use Rattle.microscope.proofs.SettingsLaws.{good-settings}
-use Rattle.microscope.proofs.AddressLaws.{both-hold}
+use Rattle.laws.proofs.ChoiceLaws.{both-hold}
 use Rattle.microscope.proofs.WorldLaws.{Good, GoodWorld, fresh-good, recorded-good, moved-good, settings-fit}
 use Rattle.band.specs.Calls.{Call, update, updateAt, advance, Settings, fresh}
 use Rattle.band.specs.Tally.{Tally, keyAccepted, accepts, empty, noted}

@@ -8,19 +8,16 @@ use lib.ListN.{length}
 use native.Mathlib.Nat.{one-le-pow}
 use native.Mathlib.Omega.{arith}
 use borrow.Author.Tests.{le-leb, lt-ltb, le-ltb, leb-true, ltb-true}
+use Rattle.laws.proofs.ChoiceLaws.{both-hold}
 use Rattle.cell.specs.Cell.{zoomOf, shutterOf, unitOf, maxZoom, soundOf}
 use Rattle.cell.specs.Workers.{Fit, Judged, unitOrZero}
 use Rattle.cell.proofs.PowerLaws.{zoom-fits}
-
-and-both : (x y : Bool) → (x && y) ≡ true → (x ≡ true) × (y ≡ true)
-and-both true y e = (refl, e)
-and-both false y e = (e, cc)
 
 module _ (t c : ℕ) (b : List ℕ) where
   module _ (sound : soundOf t c b ≡ true) where
     tests : (leb (zoomOf t b) (maxZoom c) ≡ true) × (ltb (shutterOf t b) (unitOf t c b) ≡ true)
     unfolding soundOf
-    tests = and-both (leb (zoomOf t b) (maxZoom c)) (ltb (shutterOf t b) (unitOf t c b)) sound
+    tests = both-hold (leb (zoomOf t b) (maxZoom c)) (ltb (shutterOf t b) (unitOf t c b)) sound
 
     pub sound-zoom : zoomOf t b ≤ maxZoom c
     sound-zoom = leb-true _ _ (tests .0)

@@ -4,12 +4,11 @@ use Prim.Native.Nat.{ℕ, suc, _+_, _-_, _*_, _^_, _≤_, _<_}
 use mathlib.Core.Path.{_≡_, refl, sym, _∙_}
 use mathlib.Core.Bool.{true}
 use mathlib.Core.List.{List, _++_, append-assoc, append-nil}
-use lib.ListN.{length, take, drop, getD, set, replicate, length-set, drop-of-length-le}
-use lib.Seq.{drop-length, drop-cons, take-suc-set, drop-set-lt, take-all}
+use lib.ListN.{length, take, drop, getD, set, length-set, drop-of-length-le}
+use lib.Seq.{drop-cons, take-suc-set, drop-set-lt, take-all}
 use native.Mathlib.Nat.{mod-lt}
 use native.Mathlib.Numerals.{add-one}
 use native.Mathlib.Omega.{arith}
-use borrow.Author.Fill.{fill-more}
 use Rattle.cell.specs.Cell.{pixelsOf, slotOf}
 use Rattle.cell.specs.Crossing.{clearOf, ceilingOf, allAtMost, timesEach}
 use Rattle.cell.proofs.AtMostLaws.{most-cons, ceiling-fits}
@@ -78,12 +77,3 @@ module _ (t : ℕ) (b₀ : List ℕ) (ended count : ℕ) where
     clearing-on slot k e h =
         let s : left ≡ suc (left - 1) = omega arith in
         record { done = (rw s at (w .done)) ∙ rw e refl; same = length-set b slot 0 ∙ w .same; passed = omega (arith, w .passed) }
-
--- ZERO ALL: a fill
-pub zeros-on : (l₀ l : List ℕ) (i : ℕ) → l ≡ replicate i 0 ++ drop i l₀ → length l ≡ length l₀ → i < length l → set l i 0 ≡ replicate (i + 1) 0 ++ drop (i + 1) l₀
-zeros-on l₀ l i e same h = rw e (fill-more i 0 l₀ (omega arith))
-
-pub zeros-end : (l₀ l : List ℕ) (i : ℕ) → l ≡ replicate i 0 ++ drop i l₀ → length l ≡ length l₀ → i ≤ length l → length l ≤ i → l ≡ replicate (length l₀) 0
-zeros-end l₀ l i e same a b =
-    let q : i ≡ length l₀ = omega arith in
-    e ∙ rw (q, drop-length) (append-nil _)

@@ -1,7 +1,12 @@
 -- A choice is one of its two, and each is known only under its own answer of the test.
-use mathlib.Core.Path.{_≡_, refl}
-use mathlib.Core.Bool.{Bool, true, false, cond}
+use mathlib.Core.Path.{_≡_, refl, sym}
+use mathlib.Core.Bool.{Bool, true, false, cond, _&&_, true≢false}
 
 pub either {ℓ} : {A : Type ℓ} (F : A → Type 0) (x : Bool) (a b : A) → (x ≡ true → F a) → (x ≡ false → F b) → F (cond x a b)
 either F true a b f g = f refl
 either F false a b f g = g refl
+
+-- a test of two parts holds in each
+pub both-hold : (a b : Bool) → a && b ≡ true → (a ≡ true) × (b ≡ true)
+both-hold true b e = (refl, e)
+both-hold false b e = absurd (true≢false (sym e))

@@ -9,3 +9,4 @@ pub mod FigureLaws
 pub mod UnitLaws
 pub mod LinearLaws
 pub mod PieceLaws
+pub mod ZeroLaws

@@ -1,7 +1,7 @@
 -- A row and a column below their limits make an index below the number of cells, and the cell of such an index lies in the grid.
 use Prim.Native.Nat.{ℕ, zero, suc, _+_, _*_, _^_, _≤_, _<_}
-use mathlib.Core.Path.{_≡_, refl, sym}
-use mathlib.Core.Bool.{Bool, true, false, _&&_, true≢false}
+use mathlib.Core.Path.{_≡_}
+use mathlib.Core.Bool.{true}
 use mathlib.Core.List.{List, [], _∷_}
 use native.Mathlib.Omega.{arith}
 use native.Mathlib.Nat.{le-trans, mul-le-mul-left, mul-le-mul-right}
@@ -9,17 +9,13 @@ use lib.Arith.{digits-lt}
 use lib.Dec.{ltb, eqb}
 use lib.ListN.{length, getD}
 use borrow.Author.Tests.{ltb-true, eqb-true}
+use Rattle.laws.proofs.ChoiceLaws.{both-hold}
 use Rattle.laws.proofs.PartLaws.{piece-room}
 use Rattle.cell.specs.Cell.{depthOf}
 use Rattle.microscope.specs.declared.MicroCm.{MicroCm}
 use Rattle.microscope.specs.Sketch.{cellsOf, gridBytes}
 use Rattle.microscope.specs.Refusals.{allBelow, keyFits}
 use Rattle.microscope.specs.Workers.{Ready}
-
--- a test of two parts holds in each
-pub both-hold : (a b : Bool) → a && b ≡ true → (a ≡ true) × (b ≡ true)
-both-hold true b e = (refl, e)
-both-hold false b e = absurd (true≢false (sym e))
 
 -- THE KEY
 pub all-below : (m : ℕ) (key : List ℕ) → allBelow m key ≡ true → (row : ℕ) → row < length key → getD key row 0 < m

@@ -10,7 +10,7 @@ use native.Mathlib.Omega.{arith}
 use borrow.Author.Tests.{ltb-true}
 use Rattle.laws.specs.Steps.{Step, still, leaving}
 use Rattle.laws.specs.Passes.{eachOf}
-use Rattle.laws.proofs.ChoiceLaws.{either}
+use Rattle.laws.proofs.ChoiceLaws.{either, both-hold}
 use Rattle.laws.proofs.PartLaws.{part-length, splice-length, splice-part, piece-room, piece-other, pieces-splice}
 use Rattle.laws.proofs.PassLaws.{each-length, each-piece, each-holds}
 use Rattle.rounding.specs.Draws.{stateAfter}
@@ -24,7 +24,6 @@ use Rattle.cell.proofs.CrossingLaws.{inside-quiet, Crossed, crossed-leaves}
 use Rattle.microscope.specs.declared.MicroCm.{MicroCm}
 use Rattle.microscope.specs.Sketch.{cellsOf, cellOf, insertAt, insertEach, crossCell, crossEach}
 use Rattle.microscope.specs.Refusals.{allBelow}
-use Rattle.microscope.proofs.AddressLaws.{both-hold}
 
 -- a list's first, and the rest
 module _ (m x : ℕ) (xs : List ℕ) (low : allBelow m (x ∷ xs) ≡ true) where

@@ -25,7 +25,8 @@ use Rattle.microscope.specs.Sketch.{cellsOf, gridBytes, cellOf, keyCells
 use Rattle.microscope.specs.Refusals.{allBelow, keyFits}
 use Rattle.microscope.specs.Audit.{firstUnsound}
 use Rattle.microscope.proofs.SettingsLaws.{GoodSettings}
-use Rattle.microscope.proofs.AddressLaws.{both-hold, key-rows}
+use Rattle.laws.proofs.ChoiceLaws.{both-hold}
+use Rattle.microscope.proofs.AddressLaws.{key-rows}
 use Rattle.microscope.proofs.KeyLaws.{KeyFrom, key-cells-below}
 use Rattle.microscope.proofs.GridLaws.{below-first, below-rest, Holding, Fits, fits-cell, insert-each-length, insert-each-drawn, insert-each-keeps, cross-each-length, cross-each-sound, cross-each-drawn}
 

@@ -1,5 +1,5 @@
 -- `zero_all`: a fill with zeros, one more at each turn. Assumes nothing.
-use Rattle.cell.proofs.CrossingLoops.{zeros-on, zeros-end}
+use Rattle.laws.proofs.ZeroLaws.{zeros-on, zeros-end}
 use Prim.Native.Nat.{_-_, _≤_}
 use mathlib.Core.Path.{_≡_, refl}
 use mathlib.Core.List.{_++_}
