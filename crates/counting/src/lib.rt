@@ -2,7 +2,7 @@
 //
 // A call judges first and writes after: a refused one leaves the sketch and every byte of the grid as they came.
 mod judge;
-pub mod recording;
+mod recording;
 mod worker;
 
 use microscope::MicroCm;
