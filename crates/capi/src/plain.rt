@@ -1,0 +1,250 @@
+// Between the core's values and plain numbers.
+use crate::PlainAnswer;
+use crate::PlainAudit;
+use crate::PlainDrawn;
+use crate::PlainFigure;
+use crate::PlainNumber;
+use crate::PlainReading;
+use crate::PlainSketch;
+use crate::PlainVerdict;
+use cell::CellAnswer;
+use cell::MicroParams;
+use clock::SubWindowClock;
+use microscope::AuditAnswer;
+use microscope::Finding;
+use microscope::MicroCm;
+use microscope::ReadingAnswer;
+use microscope::SketchAnswer;
+use refusal::Verdict;
+use rounding::Rounding;
+use store::LoadAnswer;
+ghost use mathlib.Core.Path.{_≡_};
+ghost use Rattle.refusal.specs.Refusals.{numberOf, indexOf};
+ghost use Rattle.capi.specs.Edge.{clockOf, sketchOf, plainOf, answerOf, noPlain, readingOf, valueOf, verdictOf, auditOf, loadAnswerOf, drawnOf};
+
+// A kind that is no kind gives a clock that every call refuses by 3.
+pub fn clock(kind: u32, length: u64, epoch: u64, reading: u64) -> SubWindowClock
+    ensures { λ r. ⌜ r ≡ clockOf kind length epoch reading ⌝ }
+{
+    if kind == 0 {
+        return SubWindowClock::CountBased {
+            items_per_sub_window: length,
+            seen: reading,
+        };
+    }
+    if kind == 1 {
+        return SubWindowClock::TimeBased {
+            sub_window_len: length,
+            epoch,
+            now: reading,
+        };
+    }
+    SubWindowClock::CountBased {
+        items_per_sub_window: 0,
+        seen: 0,
+    }
+}
+
+pub fn core(plain: PlainSketch) -> MicroCm
+    ensures { λ r. ⌜ r ≡ sketchOf plain ⌝ }
+{
+    let params = MicroParams {
+        t: plain.t,
+        c: plain.c,
+    };
+    let clock = clock(plain.kind, plain.length, plain.epoch, plain.reading);
+    let rounding = Rounding { state: plain.state };
+    MicroCm {
+        rows: plain.rows,
+        cols: plain.cols,
+        params,
+        clock,
+        rounding,
+    }
+}
+
+fn of_sketch(sketch: MicroCm) -> PlainSketch
+    ensures { λ r. ⌜ r ≡ plainOf sketch ⌝ }
+{
+    let params = sketch.params;
+    let rounding = sketch.rounding;
+    let clock = sketch.clock;
+    match clock {
+        SubWindowClock::CountBased {
+            items_per_sub_window,
+            seen,
+        } => {
+            PlainSketch {
+                rows: sketch.rows,
+                cols: sketch.cols,
+                t: params.t,
+                c: params.c,
+                kind: 0,
+                length: items_per_sub_window,
+                epoch: 0,
+                reading: seen,
+                state: rounding.state,
+            }
+        }
+        SubWindowClock::TimeBased {
+            sub_window_len,
+            epoch,
+            now,
+        } => {
+            PlainSketch {
+                rows: sketch.rows,
+                cols: sketch.cols,
+                t: params.t,
+                c: params.c,
+                kind: 1,
+                length: sub_window_len,
+                epoch,
+                reading: now,
+                state: rounding.state,
+            }
+        }
+    }
+}
+
+pub fn none() -> PlainSketch
+    ensures { λ r. ⌜ r ≡ noPlain ⌝ }
+{
+    PlainSketch {
+        rows: 0,
+        cols: 0,
+        t: 0,
+        c: 0,
+        kind: 0,
+        length: 0,
+        epoch: 0,
+        reading: 0,
+        state: 0,
+    }
+}
+
+fn number(verdict: Verdict) -> u64
+    ensures { λ r. ⌜ r ≡ numberOf verdict ⌝ }
+{
+    verdict.number() as u64
+}
+
+// A refused call hands the sketch back as it came.
+pub fn answer(before: PlainSketch, answer: SketchAnswer) -> PlainAnswer
+    ensures { λ r. ⌜ r ≡ answerOf before answer ⌝ }
+{
+    let verdict = answer.verdict;
+    let sketch = answer.sketch;
+    if !verdict.accepted() {
+        return PlainAnswer {
+            number: number(verdict),
+            index: verdict.index(),
+            draws: answer.draws,
+            sketch: before,
+        };
+    }
+    PlainAnswer {
+        number: number(verdict),
+        index: verdict.index(),
+        draws: answer.draws,
+        sketch: of_sketch(sketch),
+    }
+}
+
+pub fn loaded(answer: LoadAnswer) -> PlainAnswer
+    ensures { λ r. ⌜ r ≡ loadAnswerOf answer ⌝ }
+{
+    let verdict = answer.verdict;
+    let sketch = answer.sketch;
+    if !verdict.accepted() {
+        return PlainAnswer {
+            number: number(verdict),
+            index: verdict.index(),
+            draws: 0,
+            sketch: none(),
+        };
+    }
+    PlainAnswer {
+        number: number(verdict),
+        index: verdict.index(),
+        draws: 0,
+        sketch: of_sketch(sketch),
+    }
+}
+
+pub fn reading(answer: ReadingAnswer) -> PlainReading
+    ensures { λ r. ⌜ r ≡ readingOf answer ⌝ }
+{
+    let verdict = answer.verdict;
+    let figures = answer.reading;
+    PlainReading {
+        number: number(verdict),
+        index: verdict.index(),
+        over: figures.over,
+        under: figures.under,
+        linear: figures.linear,
+        fraction: figures.fraction,
+        over_items: answer.over,
+        under_items: answer.under,
+    }
+}
+
+pub fn value(verdict: Verdict, value: u64) -> PlainNumber
+    ensures { λ r. ⌜ r ≡ valueOf verdict value ⌝ }
+{
+    PlainNumber {
+        number: number(verdict),
+        index: verdict.index(),
+        value,
+    }
+}
+
+pub fn figure(verdict: Verdict, value: f64) -> PlainFigure
+    ensures { λ r. ⌜ r ≡ record { number = numberOf verdict; index = indexOf verdict; value = value } ⌝ }
+{
+    PlainFigure {
+        number: number(verdict),
+        index: verdict.index(),
+        value,
+    }
+}
+
+pub fn told(verdict: Verdict) -> PlainVerdict
+    ensures { λ r. ⌜ r ≡ verdictOf verdict ⌝ }
+{
+    PlainVerdict {
+        number: number(verdict),
+        index: verdict.index(),
+    }
+}
+
+pub fn found(answer: AuditAnswer) -> PlainAudit
+    ensures { λ r. ⌜ r ≡ auditOf answer ⌝ }
+{
+    let verdict = answer.verdict;
+    let audit = answer.audit;
+    match audit {
+        Finding::Sound => PlainAudit {
+            number: number(verdict),
+            unsound: 0,
+            index: 0,
+        },
+        Finding::Unsound(index) => PlainAudit {
+            number: number(verdict),
+            unsound: 1,
+            index,
+        },
+    }
+}
+
+pub fn drawn(answer: CellAnswer) -> PlainDrawn
+    ensures { λ r. ⌜ r ≡ drawnOf answer ⌝ }
+{
+    let verdict = answer.verdict;
+    let rounding = answer.rounding;
+    PlainDrawn {
+        number: number(verdict),
+        index: verdict.index(),
+        draws: answer.draws as u64,
+        state: rounding.state,
+    }
+}

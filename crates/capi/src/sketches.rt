@@ -1,0 +1,166 @@
+// The calls on a sketch. The grid and the key are the caller's.
+use crate::PlainAnswer;
+use crate::PlainAudit;
+use crate::PlainNumber;
+use crate::PlainReading;
+use crate::PlainSketch;
+use crate::PlainVerdict;
+use crate::plain;
+use cell::MicroParams;
+use microscope::MicroCm;
+ghost use mathlib.Core.Path.{_≡_};
+ghost use Rattle.microscope.specs.Refusals.{freshCall, updateCall, updateAtCall, advanceCall, readCall, readWithCall, meanCall, bucketVerdict, highestCall, auditCall, mergeCall};
+ghost use Rattle.capi.specs.Edge.{clockOf, sketchOf, paramsOf, noPlain, plainOutcome, outcomeOf, readingOf, meanOf, highestOf, verdictOf, auditOf};
+
+// A fresh sketch: every byte of the grid is written 0. Any seed will do.
+#[no_mangle]
+pub extern "C" fn microscope_new(
+    rows: usize,
+    cols: usize,
+    t: usize,
+    c: u32,
+    kind: u32,
+    length: u64,
+    epoch: u64,
+    seed: u64,
+    grid: &mut [u8],
+) -> PlainAnswer
+    ensures { λ r. ⌜ plainOutcome r (now (grid .exit)) ≡ outcomeOf noPlain (freshCall rows cols (paramsOf t c) (clockOf kind length epoch epoch) seed (now (grid .entry))) ⌝ }
+{
+    let params = MicroParams { t, c };
+    let clock = plain::clock(kind, length, epoch, epoch);
+    let answer = MicroCm::with_dimensions(rows, cols, params, clock, seed, grid);
+    plain::answer(plain::none(), answer)
+}
+
+// One item on a clock that counts items.
+#[no_mangle]
+pub extern "C" fn microscope_update(
+    sketch: PlainSketch,
+    key: &[u32],
+    grid: &mut [u8],
+) -> PlainAnswer
+    ensures { λ r. ⌜ plainOutcome r (now (grid .exit)) ≡ outcomeOf sketch (updateCall (sketchOf sketch) (now (key .entry)) (now (grid .entry))) ⌝ }
+{
+    let core = plain::core(sketch);
+    let answer = counting::update(core, key, grid);
+    plain::answer(sketch, answer)
+}
+
+// One item on a clock of time.
+#[no_mangle]
+pub extern "C" fn microscope_update_at(
+    sketch: PlainSketch,
+    key: &[u32],
+    timestamp: u64,
+    grid: &mut [u8],
+) -> PlainAnswer
+    ensures { λ r. ⌜ plainOutcome r (now (grid .exit)) ≡ outcomeOf sketch (updateAtCall (sketchOf sketch) (now (key .entry)) timestamp (now (grid .entry))) ⌝ }
+{
+    let core = plain::core(sketch);
+    let answer = counting::update_at(core, key, timestamp, grid);
+    plain::answer(sketch, answer)
+}
+
+// Time passes without an item.
+#[no_mangle]
+pub extern "C" fn microscope_advance_to(
+    sketch: PlainSketch,
+    timestamp: u64,
+    grid: &mut [u8],
+) -> PlainAnswer
+    ensures { λ r. ⌜ plainOutcome r (now (grid .exit)) ≡ outcomeOf sketch (advanceCall (sketchOf sketch) timestamp (now (grid .entry))) ⌝ }
+{
+    let core = plain::core(sketch);
+    let answer = counting::advance_to(core, timestamp, grid);
+    plain::answer(sketch, answer)
+}
+
+// The figures of a key, with the clock's fraction.
+#[no_mangle]
+pub extern "C" fn microscope_estimate(sketch: PlainSketch, key: &[u32], grid: &[u8]) -> PlainReading
+    ensures { λ r. ⌜ r ≡ readingOf (readCall (sketchOf sketch) (now (key .entry)) (now (grid .entry))) ⌝ }
+{
+    let core = plain::core(sketch);
+    let answer = reading::estimate(core, key, grid);
+    plain::reading(answer)
+}
+
+// The same with a given fraction.
+#[no_mangle]
+pub extern "C" fn microscope_estimate_with(
+    sketch: PlainSketch,
+    key: &[u32],
+    fraction: f64,
+    grid: &[u8],
+) -> PlainReading
+    ensures { λ r. ⌜ r ≡ readingOf (readWithCall (sketchOf sketch) (now (key .entry)) fraction (now (grid .entry))) ⌝ }
+{
+    let core = plain::core(sketch);
+    let answer = reading::estimate_with(core, key, fraction, grid);
+    plain::reading(answer)
+}
+
+// Items a sub-window: Under divided by t, rounded down.
+#[no_mangle]
+pub extern "C" fn microscope_mean(sketch: PlainSketch, key: &[u32], grid: &[u8]) -> PlainNumber
+    ensures { λ r. ⌜ r ≡ meanOf (meanCall (sketchOf sketch) (now (key .entry)) (now (grid .entry))) ⌝ }
+{
+    let core = plain::core(sketch);
+    let answer = reading::mean(core, key, grid);
+    let verdict = answer.verdict;
+    plain::value(verdict, answer.mean)
+}
+
+// Whether there is a cell at this row and column: its bytes are the `depth` bytes from
+// (row * cols + column) * depth on.
+#[no_mangle]
+pub extern "C" fn microscope_bucket_check(
+    sketch: PlainSketch,
+    row: usize,
+    col: usize,
+    grid: &[u8],
+) -> PlainVerdict
+    ensures { λ r. ⌜ r ≡ verdictOf (bucketVerdict (sketchOf sketch) row col (now (grid .entry))) ⌝ }
+{
+    let core = plain::core(sketch);
+    let verdict = microscope::bucket_check(core, row, col, grid);
+    plain::told(verdict)
+}
+
+// The highest zoom of any cell.
+#[no_mangle]
+pub extern "C" fn microscope_max_zoom(sketch: PlainSketch, grid: &[u8]) -> PlainNumber
+    ensures { λ r. ⌜ r ≡ highestOf (highestCall (sketchOf sketch) (now (grid .entry))) ⌝ }
+{
+    let core = plain::core(sketch);
+    let answer = microscope::max_zoom(core, grid);
+    let verdict = answer.verdict;
+    plain::value(verdict, answer.zoom as u64)
+}
+
+// Whether every cell is sound, or the first that is not.
+#[no_mangle]
+pub extern "C" fn microscope_audit(sketch: PlainSketch, grid: &[u8]) -> PlainAudit
+    ensures { λ r. ⌜ r ≡ auditOf (auditCall (sketchOf sketch) (now (grid .entry))) ⌝ }
+{
+    let core = plain::core(sketch);
+    let answer = microscope::audit(core, grid);
+    plain::found(answer)
+}
+
+// The counts of another sketch added to this one's. The other grid is only read.
+#[no_mangle]
+pub extern "C" fn microscope_merge(
+    sketch: PlainSketch,
+    grid: &mut [u8],
+    other: PlainSketch,
+    other_grid: &[u8],
+) -> PlainAnswer
+    ensures { λ r. ⌜ plainOutcome r (now (grid .exit)) ≡ outcomeOf sketch (mergeCall (sketchOf sketch) (now (grid .entry)) (sketchOf other) (now («other_grid» .entry))) ⌝ }
+{
+    let core = plain::core(sketch);
+    let others = plain::core(other);
+    let answer = sketch_merging::merge(core, grid, others, other_grid);
+    plain::answer(sketch, answer)
+}

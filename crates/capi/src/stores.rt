@@ -1,0 +1,43 @@
+// The calls on a store. The buffers are the caller's.
+use crate::PlainAnswer;
+use crate::PlainNumber;
+use crate::PlainSketch;
+use crate::PlainVerdict;
+use crate::plain;
+ghost use mathlib.Core.Path.{_≡_};
+ghost use Rattle.store.specs.Refusals.{lengthCall, saveCall, loadCall};
+ghost use Rattle.capi.specs.Edge.{sketchOf, plainOutcome, storeLengthOf, plainSave, saveOf, loadOf};
+
+// How many bytes a sketch's store takes.
+#[no_mangle]
+pub extern "C" fn microscope_store_length(sketch: PlainSketch) -> PlainNumber
+    ensures { λ r. ⌜ r ≡ storeLengthOf (lengthCall (sketchOf sketch)) ⌝ }
+{
+    let core = plain::core(sketch);
+    let answer = store::store_length(core);
+    let verdict = answer.verdict;
+    plain::value(verdict, answer.length as u64)
+}
+
+// The whole buffer is written; no byte if refused.
+#[no_mangle]
+pub extern "C" fn microscope_save(
+    store: &mut [u8],
+    sketch: PlainSketch,
+    grid: &[u8],
+) -> PlainVerdict
+    ensures { λ r. ⌜ plainSave r (now (store .exit)) ≡ saveOf (saveCall (sketchOf sketch) (now (grid .entry)) (now (store .entry))) ⌝ }
+{
+    let core = plain::core(sketch);
+    let verdict = store::save(store, core, grid);
+    plain::told(verdict)
+}
+
+// The sketch of a store, and its grid; the grid stays as it was if refused.
+#[no_mangle]
+pub extern "C" fn microscope_load(grid: &mut [u8], store: &[u8]) -> PlainAnswer
+    ensures { λ r. ⌜ plainOutcome r (now (grid .exit)) ≡ loadOf (loadCall (now (grid .entry)) (now (store .entry))) ⌝ }
+{
+    let answer = store::load(grid, store);
+    plain::loaded(answer)
+}
