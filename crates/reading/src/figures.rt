@@ -165,11 +165,12 @@ fn with_oldest(under: Exact, oldest: u64, fraction: f64) -> Estimated
     ensures { λ r. ⌜ r ≡ agedEstimate (under .whole) oldest fraction ⌝ }
 {
     let over = plus(under, oldest);
+    let items = oldest as f64;
     Estimated {
         reading: Reading {
             over: over.value,
             under: under.value,
-            linear: under.value + fraction * oldest as f64,
+            linear: under.value + fraction * items,
             fraction,
         },
         over: over.whole,
