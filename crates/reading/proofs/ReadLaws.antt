@@ -16,14 +16,13 @@ use Rattle.refusal.proofs.GateLaws.{gate-open, gate-shut, gate-passed}
 use Rattle.clock.specs.Clock.{GoodLength, nOf, fractionOf}
 use Rattle.microscope.specs.declared.MicroCm.{MicroCm}
 use Rattle.microscope.specs.declared.ReadingAnswer.{ReadingAnswer}
-use Rattle.microscope.specs.Figures.{sumBack, underOf, overOf, hasOldest, readingOf}
+use Rattle.microscope.specs.Figures.{underOf, overOf, hasOldest, readingOf}
 use Rattle.microscope.specs.Refusals.{keyFits, refuseSketch, refuseKey, readVerdict, readWithVerdict, noReading, readingAnswer, readCall, readWithCall, meanCall}
 use Rattle.microscope.specs.Workers.{Ready, Readable}
 use Rattle.microscope.proofs.ReadyLaws.{keyed-ready}
 use Rattle.microscope.proofs.ReadingLaws.{keyed, keyed-gate, cells, fractionThen}
-use Rattle.reading.specs.declared.Exact.{Exact}
 use Rattle.reading.specs.declared.Estimated.{Estimated}
-use Rattle.reading.specs.Workers.{exactly, estimateOf}
+use Rattle.reading.specs.Workers.{estimateOf}
 
 -- THE FRACTION
 module _ (k : MicroCm) (fraction : Float) (n : ℕ) (en : n ≡ nOf (k .clock)) where
@@ -145,7 +144,3 @@ module _ (k : MicroCm) (key g : List ℕ) (v : Verdict) (ok : Bool) (asked : ok 
     pub read-with-told : (e : Estimated) (r : ReadingAnswer) → e ≡ estimateOf k g key fraction → r ≡ record { verdict = v; reading = e .reading; over = e .over; under = e .under }
         → not ok ≡ false → r ≡ readWithCall k key fraction g
     read-with-told e r ee er h = all-told fraction r e ee er h ∙ same-with
-
--- UNDER alone
-pub under-whole : (k : MicroCm) (g key : List ℕ) (u : Exact) → u ≡ exactly (sumBack k g key (k .params .t - 1)) → u .whole ≡ underOf k g key
-under-whole k g key u e = rw e refl
