@@ -77,7 +77,8 @@ pub struct Passed {
 }
 
 impl MicroCm {
-    // A fresh sketch, and every byte of the lent grid 0. Any seed will do.
+    // A fresh sketch, and every byte of the lent grid 0. Any seed will do. A refused start leaves the grid as it was, and
+    // gives in place of a sketch one that every call refuses.
     pub fn with_dimensions(
         rows: usize,
         cols: usize,
@@ -111,7 +112,7 @@ impl MicroCm {
     }
 }
 
-// 7 for a row or column out of range. No cell is judged.
+// 1 to 6, then 7 for a row or column out of range. No cell is judged.
 pub fn bucket_check(sketch: MicroCm, row: usize, col: usize, grid: &[u8]) -> Verdict
     ensures { λ r. ⌜ r ≡ bucketVerdict sketch row col (now (grid .entry)) ⌝ }
 {

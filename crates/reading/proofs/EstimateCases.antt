@@ -9,7 +9,7 @@ use Rattle.clock.specs.Clock.{nOf}
 use Rattle.microscope.specs.declared.MicroCm.{MicroCm}
 use Rattle.reading.specs.declared.Exact.{Exact}
 use Rattle.reading.specs.declared.Estimated.{Estimated}
-use Rattle.microscope.specs.Figures.{leastIn, sumBack, underOf, oldestOf}
+use Rattle.microscope.specs.Figures.{leastIn, underOf, oldestOf}
 use Rattle.reading.specs.Workers.{exactly, youngEstimate, agedEstimate, estimateOf}
 use Rattle.microscope.proofs.FigureLaws.{over-young, over-aged, linear-young, linear-aged}
 
@@ -21,24 +21,25 @@ pub aged-is : (u o : Exact) (fraction : Float) (oldest : ℕ) → u .value ≡ f
     } ≡ agedEstimate (u .whole) oldest fraction
 aged-is u o fraction oldest e q = rw (q, e) refl
 
-module _ (k : MicroCm) (g key : List ℕ) (n t : ℕ) (en : n ≡ nOf (k .clock)) (et : t ≡ k .params .t) (some : 1 ≤ k .params .t) (u : Exact) (eu : u ≡ exactly (sumBack k g key (t - 1)))
+module _ (k : MicroCm) (g key : List ℕ) (n t : ℕ) (en : n ≡ nOf (k .clock)) (et : t ≡ k .params .t) (some : 1 ≤ k .params .t) (u : Exact) (eu : u ≡ exactly (underOf k g key))
   where
-    under-is : u ≡ exactly (underOf k g key)
-    under-is = eu ∙ rw et refl
-
     pub young-is : (fraction : Float) (r : Estimated) → n < t → r ≡ youngEstimate u fraction → r ≡ estimateOf k g key fraction
     young-is fraction r h e =
         let h' : nOf (k .clock) < k .params .t = omega arith in
-        e ∙ rw (under-is, over-young k g key some h', linear-young k g key some fraction h') refl
+        e ∙ rw (eu, over-young k g key some h', linear-young k g key some fraction h') refl
 
     pub old-is : (oldest : ℕ) (fraction : Float) (r : Estimated) → t ≤ n → oldest ≡ leastIn k g key (n - t) → r ≡ agedEstimate (u .whole) oldest fraction → r ≡ estimateOf k g key fraction
     old-is oldest fraction r h e q =
         let h' : k .params .t ≤ nOf (k .clock) = omega arith in
         let o : oldest ≡ oldestOf k g key = e ∙ rw (en, et) refl in
-        q ∙ rw (under-is, o, over-aged k g key some h', linear-aged k g key some fraction h') refl
+        q ∙ rw (eu, o, over-aged k g key some h', linear-aged k g key some fraction h') refl
 
-    pub under-exact : u .value ≡ figure (u .whole)
-    under-exact = rw eu refl
+module _ (k : MicroCm) (g key : List ℕ) (u : Exact) (eu : u ≡ exactly (underOf k g key)) where
+  pub under-exact : u .value ≡ figure (u .whole)
+  under-exact = rw eu refl
+
+  pub under-whole : u .whole ≡ underOf k g key
+  under-whole = rw eu refl
 
 -- no figure passes 2 ^ 53
 pub over-room : (u : Exact) (oldest : ℕ) → u .whole ≤ 4096 * (256 * (2 ^ 32 - 1)) → oldest ≤ 256 * (2 ^ 32 - 1) → u .whole + oldest ≤ 2 ^ 53

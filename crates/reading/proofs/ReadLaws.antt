@@ -11,20 +11,18 @@ use Rattle.laws.specs.Unit.{inUnit}
 use Rattle.refusal.specs.declared.Verdict.{Verdict}
 use Rattle.refusal.specs.declared.Verdict.the-variants.{Accepted, Refused}
 use Rattle.refusal.specs.Refusals.{isAccepted, refuse}
-use Rattle.refusal.proofs.VerdictLaws.{refused-leaves, refuse-then, turned-back, let-pass, not-refused}
-use Rattle.refusal.proofs.GateLaws.{Gate, gate-chain, gate-open, gate-shut, gate-passed}
+use Rattle.refusal.proofs.VerdictLaws.{refused-leaves, turned-back, let-pass, not-refused}
+use Rattle.refusal.proofs.GateLaws.{gate-open, gate-shut, gate-passed}
 use Rattle.clock.specs.Clock.{GoodLength, nOf, fractionOf}
 use Rattle.microscope.specs.declared.MicroCm.{MicroCm}
 use Rattle.microscope.specs.declared.ReadingAnswer.{ReadingAnswer}
-use Rattle.microscope.specs.Sketch.{keyCells}
-use Rattle.microscope.specs.Figures.{sumBack, underOf, overOf, hasOldest, readingOf}
-use Rattle.microscope.specs.Refusals.{keyFits, refuseSketch, refuseKey, refuseUnsound, readVerdict, readWithVerdict, noReading, readingAnswer, readCall, readWithCall, meanCall}
+use Rattle.microscope.specs.Figures.{underOf, overOf, hasOldest, readingOf}
+use Rattle.microscope.specs.Refusals.{keyFits, refuseSketch, refuseKey, readVerdict, readWithVerdict, noReading, readingAnswer, readCall, readWithCall, meanCall}
 use Rattle.microscope.specs.Workers.{Ready, Readable}
-use Rattle.microscope.proofs.SketchGates.{sketch-gate}
 use Rattle.microscope.proofs.ReadyLaws.{keyed-ready}
-use Rattle.reading.specs.declared.Exact.{Exact}
+use Rattle.microscope.proofs.ReadingLaws.{keyed, keyed-gate, cells, fractionThen}
 use Rattle.reading.specs.declared.Estimated.{Estimated}
-use Rattle.reading.specs.Workers.{exactly, estimateOf}
+use Rattle.reading.specs.Workers.{estimateOf}
 
 -- THE FRACTION
 module _ (k : MicroCm) (fraction : Float) (n : ℕ) (en : n ≡ nOf (k .clock)) where
@@ -36,26 +34,15 @@ module _ (k : MicroCm) (fraction : Float) (n : ℕ) (en : n ≡ nOf (k .clock)) 
 
 -- THE VERDICTS
 module _ (k : MicroCm) (key g : List ℕ) where
-  -- 1 to 7
-  abbrev keyed : Verdict → Verdict
-  keyed rest = refuseSketch k g (refuseKey k key rest)
-
-  keyed-gate : Gate keyed
-  keyed-gate = gate-chain (refuseSketch k g) (refuseKey k key) (sketch-gate k g) (refuse-then 7 (not (keyFits k key)))
-
-  -- 14
-  abbrev cells : Verdict
-  cells = refuseUnsound k g (keyCells k 0 key) Accepted
-
   module _ (v : Verdict) (ev : v ≡ refuseSketch k g (refuseKey k key Accepted)) (ok : Bool) (asked : ok ≡ isAccepted v) where
-    shut : (rest : Verdict) → not ok ≡ true → v ≡ keyed rest
-    shut rest h = sym (gate-shut keyed keyed-gate rest v ev (turned-back v ok asked h))
+    shut : (rest : Verdict) → not ok ≡ true → v ≡ keyed k key g rest
+    shut rest h = sym (gate-shut (keyed k key g) (keyed-gate k key g) rest v ev (turned-back v ok asked h))
 
     pub read-keyed : not ok ≡ true → v ≡ readVerdict k key g
-    read-keyed = shut cells
+    read-keyed = shut (cells k key g)
 
     pub read-with-keyed : (fraction : Float) → not ok ≡ true → v ≡ readWithVerdict k key fraction g
-    read-with-keyed fraction = shut (refuse 13 (hasOldest k && not (inUnit fraction)) cells)
+    read-with-keyed fraction = shut (fractionThen k key g fraction)
 
     module _ (a : not ok ≡ false) where
       good : Ready k (length g) × (keyFits k key ≡ true)
@@ -70,34 +57,34 @@ module _ (k : MicroCm) (key g : List ℕ) where
       pub keyed-length : GoodLength (k .clock)
       keyed-length = record { some = good .0 .length-low; short = good .0 .length-high }
 
-      open-to : (rest : Verdict) → keyed rest ≡ rest
-      open-to rest = gate-open keyed keyed-gate rest (sym ev ∙ let-pass v ok asked a)
+      open-to : (rest : Verdict) → keyed k key g rest ≡ rest
+      open-to rest = gate-open (keyed k key g) (keyed-gate k key g) rest (sym ev ∙ let-pass v ok asked a)
 
-      pub read-cells : (w : Verdict) → w ≡ cells → w ≡ readVerdict k key g
-      read-cells w ew = ew ∙ sym (open-to cells)
+      pub read-cells : (w : Verdict) → w ≡ cells k key g → w ≡ readVerdict k key g
+      read-cells w ew = ew ∙ sym (open-to (cells k key g))
 
       module _ (fraction : Float) (bad : Bool) (eb : bad ≡ (hasOldest k && not (inUnit fraction))) where
-        left : readWithVerdict k key fraction g ≡ refuse 13 bad cells
-        left = open-to (refuse 13 (hasOldest k && not (inUnit fraction)) cells) ∙ ap (λ (b : Bool). refuse 13 b cells) (sym eb)
+        left : readWithVerdict k key fraction g ≡ refuse 13 bad (cells k key g)
+        left = open-to (fractionThen k key g fraction) ∙ ap (λ (b : Bool). refuse 13 b (cells k key g)) (sym eb)
 
         pub fraction-refused : bad ≡ true → Refused 13 ≡ readWithVerdict k key fraction g
         fraction-refused t = sym (left ∙ rw t refl)
 
-        pub read-with-cells : bad ≡ false → (w : Verdict) → w ≡ cells → w ≡ readWithVerdict k key fraction g
+        pub read-with-cells : bad ≡ false → (w : Verdict) → w ≡ cells k key g → w ≡ readWithVerdict k key fraction g
         read-with-cells t w ew = ew ∙ sym (left ∙ rw t refl)
 
   -- what an accepted verdict says
-  readable : keyed cells ≡ Accepted → Readable k key g
-  readable e =
-      let p = gate-passed keyed keyed-gate cells e in
+  readable-then : (rest : Verdict) → (rest ≡ Accepted → cells k key g ≡ Accepted) → keyed k key g rest ≡ Accepted → Readable k key g
+  readable-then rest last e =
+      let p = gate-passed (keyed k key g) (keyed-gate k key g) rest e in
       let r = keyed-ready k key g (p .0) in
-      record { ready = r .0; fits = r .1; judged = p .1 }
+      record { ready = r .0; fits = r .1; judged = last (p .1) }
+
+  readable : readVerdict k key g ≡ Accepted → Readable k key g
+  readable = readable-then (cells k key g) (λ e. e)
 
   readable-with : (fraction : Float) → readWithVerdict k key fraction g ≡ Accepted → Readable k key g
-  readable-with fraction e =
-      let p = gate-passed keyed keyed-gate (refuse 13 (hasOldest k && not (inUnit fraction)) cells) e in
-      let r = keyed-ready k key g (p .0) in
-      record { ready = r .0; fits = r .1; judged = not-refused 13 (hasOldest k && not (inUnit fraction)) cells (p .1) .1 }
+  readable-with fraction = readable-then (fractionThen k key g fraction) (λ e. not-refused 13 (hasOldest k && not (inUnit fraction)) (cells k key g) e .1)
 
 -- THE ANSWERS
 module _ (k : MicroCm) (key g : List ℕ) (v : Verdict) (ok : Bool) (asked : ok ≡ isAccepted v) where
@@ -157,7 +144,3 @@ module _ (k : MicroCm) (key g : List ℕ) (v : Verdict) (ok : Bool) (asked : ok 
     pub read-with-told : (e : Estimated) (r : ReadingAnswer) → e ≡ estimateOf k g key fraction → r ≡ record { verdict = v; reading = e .reading; over = e .over; under = e .under }
         → not ok ≡ false → r ≡ readWithCall k key fraction g
     read-with-told e r ee er h = all-told fraction r e ee er h ∙ same-with
-
--- UNDER alone
-pub under-whole : (k : MicroCm) (g key : List ℕ) (u : Exact) → u ≡ exactly (sumBack k g key (k .params .t - 1)) → u .whole ≡ underOf k g key
-under-whole k g key u e = rw e refl

@@ -165,16 +165,29 @@ fn with_oldest(under: Exact, oldest: u64, fraction: f64) -> Estimated
     ensures { λ r. ⌜ r ≡ agedEstimate (under .whole) oldest fraction ⌝ }
 {
     let over = plus(under, oldest);
+    let items = oldest as f64;
     Estimated {
         reading: Reading {
             over: over.value,
             under: under.value,
-            linear: under.value + fraction * oldest as f64,
+            linear: under.value + fraction * items,
             fraction,
         },
         over: over.whole,
         under: under.whole,
     }
+}
+
+// Under; the units are known.
+fn under_from(sketch: MicroCm, grid: &[u8], key: &[u32], units: &[u64]) -> Exact
+    requires { ⌜ Readable sketch (now key) (now grid) × (length (now units) ≡ 128) ⌝ }
+    requires { ⌜ Units sketch (now grid) (now key) (sketch .rows) (now units) ⌝ }
+    ensures { λ r. ⌜ (r ≡ exactly (underOf sketch (now (grid .entry)) (now (key .entry)))) × (r .whole ≤ 4096 * (256 * (2 ^ 32 - 1))) ⌝ }
+{
+    let params = sketch.params;
+    let clock = sketch.clock;
+    let n = clock::worker::sub_window(clock);
+    sum_back(sketch, grid, key, units, n, params.t as u64 - 1)
 }
 
 // All figures; the units are known.
@@ -193,7 +206,7 @@ fn estimate_from(
     let clock = sketch.clock;
     let t = params.t as u64;
     let n = clock::worker::sub_window(clock);
-    let under = sum_back(sketch, grid, key, units, n, t - 1);
+    let under = under_from(sketch, grid, key, units);
     if n < t {
         return below_window(under, fraction);
     }
@@ -233,10 +246,7 @@ fn under_with(sketch: MicroCm, grid: &[u8], key: &[u32], units: &mut [u64]) -> u
     ensures { λ r. ⌜ r ≡ underOf sketch (now (grid .entry)) (now (key .entry)) ⌝ }
 {
     fill_units(sketch, grid, key, units);
-    let params = sketch.params;
-    let clock = sketch.clock;
-    let n = clock::worker::sub_window(clock);
-    let sum = sum_back(sketch, grid, key, &units[..], n, params.t as u64 - 1);
+    let sum = under_from(sketch, grid, key, &units[..]);
     sum.whole
 }
 

@@ -84,8 +84,6 @@ pub fn mean(sketch: MicroCm, key: &[u32], grid: &[u8]) -> MeanAnswer
         return MeanAnswer { verdict, mean: 0 };
     }
     let params = sketch.params;
-    MeanAnswer {
-        verdict,
-        mean: figures::under(sketch, grid, key) / params.t as u64,
-    }
+    let mean = figures::under(sketch, grid, key) / params.t as u64;
+    MeanAnswer { verdict, mean }
 }

@@ -16,12 +16,12 @@ returns c = search (mean-refused, needs)
 under-requires : tie.Need-under-requires
 under-requires c κs = search (read-readable, needs)
 
-div-t10 : tie.Need-div-t10
-div-t10 c = search (mean-some, needs)
+div-mean : tie.Need-div-mean
+div-mean c = search (mean-some, needs)
 
 returns-2 : tie.Need-returns-2
 returns-2 c = search (mean-told, needs)
 
 pub mean-spec : {M : Type 1} → statement M
 mean-spec =
-    tie.close (tie.spec read-requires accepted-requires returns under-requires div-t10 returns-2)
+    tie.close (tie.spec read-requires accepted-requires returns under-requires div-mean returns-2)

@@ -1,6 +1,5 @@
 -- `estimate_from`: below n = t the figures are one; from there on the oldest term stands beside Under. Assumes nothing.
 use Rattle.reading.proofs.EstimateCases.{young-is, old-is, under-exact, over-room}
-use native.Mathlib.Omega.{arith}
 use borrow.Author.Needs.{needs}
 use Rattle.reading.proofs.figures.estimate_from.Statement.{statement}
 use Rattle.reading.proofs.figures.estimate_from.Tie as tie
@@ -8,11 +7,8 @@ use Rattle.reading.proofs.figures.estimate_from.Tie as tie
 sub-window-requires : tie.Need-sub-window-requires
 sub-window-requires c κs = search needs
 
-sub-sum-back : tie.Need-sub-sum-back
-sub-sum-back c = search needs
-
-sum-back-requires : tie.Need-sum-back-requires
-sum-back-requires c κs = (search needs, (c .before .before .before .before .before .pre .1, (search needs, omega arith)))
+under-from-requires : tie.Need-under-from-requires
+under-from-requires c κs = (search needs, c .before .before .before .before .before .pre .1)
 
 below-window-requires : tie.Need-below-window-requires
 below-window-requires c κs = search needs
@@ -34,8 +30,7 @@ estimate-from-spec =
     tie.close
     (tie.spec
     sub-window-requires
-    sub-sum-back
-    sum-back-requires
+    under-from-requires
     below-window-requires
     returns
     least-in-requires

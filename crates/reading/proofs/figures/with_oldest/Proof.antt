@@ -9,11 +9,11 @@ use Rattle.reading.proofs.figures.with_oldest.Tie as tie
 plus-requires : tie.Need-plus-requires
 plus-requires c κs = search needs
 
-int-to-float-t5 : tie.Need-int-to-float-t5
-int-to-float-t5 c = castable _ (omega arith)
+int-to-float-items : tie.Need-int-to-float-items
+int-to-float-items c = castable _ (omega arith)
 
 returns : tie.Need-returns
 returns c = search (aged-is, needs)
 
 pub with-oldest-spec : {M : Type 1} → statement M
-with-oldest-spec = tie.close (tie.spec plus-requires int-to-float-t5 returns)
+with-oldest-spec = tie.close (tie.spec plus-requires int-to-float-items returns)
