@@ -2,15 +2,17 @@
 use Prim.Native.Nat.{ℕ, _≤_, _<_}
 use mathlib.Core.Path.{_≡_, refl, sym, _∙_}
 use mathlib.Core.Bool.{Bool, true, false, not, _||_}
+use mathlib.Core.List.{List}
 use lib.Dec.{ltb, eqb}
+use lib.ListN.{length}
 use borrow.Author.Tests.{lt-ltb, eq-eqb, ne-eqb, eqb-true, not-true, not-false}
 use Rattle.refusal.specs.declared.Verdict.{Verdict}
 use Rattle.refusal.specs.declared.Verdict.the-variants.{Accepted, Refused}
 use Rattle.refusal.specs.Refusals.{isAccepted, refuse, outside, whenAccepted}
 use Rattle.refusal.proofs.VerdictLaws.{accepted-is, refused-leaves, not-refused, inside-range, range-inside}
 use Rattle.cell.specs.declared.MicroParams.{MicroParams}
-use Rattle.cell.specs.Cell.{depthOf}
-use Rattle.cell.specs.Refusals.{refuseParams, paramsVerdict}
+use Rattle.cell.specs.Cell.{pixelsOf, depthOf}
+use Rattle.cell.specs.Refusals.{refuseParams, paramsVerdict, crossVerdict, mergeVerdict}
 use Rattle.cell.specs.Workers.{Fit, beforeCell}
 
 -- A RANGE
@@ -113,3 +115,12 @@ module _ (p : MicroParams) (σ size : ℕ) (v : Verdict) (judged : v ≡ beforeC
         let t-in = inside-range 1 4096 (p .t) (one .0) in
         let c-in = inside-range 2 256 (p .c) (two .0) in
         record { t-low = t-in .0; t-high = t-in .1; c-low = c-in .0; c-high = c-in .1; size-is = eqb-true _ _ (not-false _ (six .0)) }
+
+-- THE LOWEST NUMBER, where nothing is told before the cell: whether it is sound comes last
+module _ (p : MicroParams) (b : List ℕ) (σ : ℕ) (none : beforeCell p σ (length b) Accepted ≡ Accepted) where
+  pub nine-told : (n crossed : ℕ) → 0 < crossed → crossed < pixelsOf (p .t) → n < crossed → crossVerdict p n crossed b σ ≡ Refused 9
+  nine-told n crossed some near low =
+      opened-on p σ (length b) Accepted (sym none) true refl refl _ ∙ simp (lt-ltb _ _ some, lt-ltb _ _ near, lt-ltb _ _ low)
+
+  pub six-told : (src : List ℕ) → (length src ≡ depthOf (p .t) → ⊥) → mergeVerdict p b src σ ≡ Refused 6
+  six-told src other = opened-on p σ (length b) Accepted (sym none) true refl refl _ ∙ simp (ne-eqb _ _ other)

@@ -38,9 +38,6 @@ module _ (t c : ℕ) (b src : List ℕ) (sound : soundOf t c b ≡ true) (sound'
     pub target-positive : 0 < unit
     target-positive = rw eu (one-le-pow target c (omega arith))
 
-    pub remainder-fits : shutters % unit < 2 ^ 32
-    remainder-fits = omega (arith, mod-lt shutters target-positive, target-fits)
-
     -- two shutters, each below a unit
     pub carry-le : shutters / unit ≤ 1
     carry-le =

@@ -1,8 +1,14 @@
 // Document 01, "Insertion": an item is recorded. Callers have judged the cell.
+use crate::CellAnswer;
 use crate::Drawn;
+use crate::Held;
+use crate::MicroParams;
+use crate::answer;
 use crate::layout;
 use crate::power;
 use rounding::Divided;
+use rounding::Rounding;
+use rounding::worker;
 ghost use mathlib.Core.Path.{_≡_};
 ghost use mathlib.Core.Bool.{true};
 ghost use Prim.Native.Nat.{_+_, _≤_, _<_};
@@ -10,19 +16,28 @@ ghost use lib.ListN.{length, set};
 ghost use Rattle.rounding.specs.Draws.{roundedDiv};
 ghost use Rattle.cell.specs.Cell.{pixelsOf, soundOf};
 ghost use Rattle.cell.specs.Insertion.{divideEach, creditOf, insertOf};
-ghost use Rattle.cell.specs.Workers.{Fit, Judged, stepOf, counted};
+ghost use Rattle.cell.specs.Refusals.{cellOutcome, insertCall};
+ghost use Rattle.cell.specs.Workers.{Fit, Judged, HeldOf, stepOf, counted};
 
-// A pixel divided by c with rounding. The credited one holds 255 and takes the unit first: it counts as 256, which no
-// byte holds. To divide 255 and add 1 after would credit up to a whole unit too much at every zoom-out.
+// The credited pixel divided by c with rounding. It holds 255 and takes its unit first: it counts as 256, which no byte
+// holds. To divide 255 and add 1 after would credit up to a whole unit too much at every zoom-out.
+fn divide_credited(c: u32, state: u64) -> Divided
+    requires { ⌜ 2 ≤ c ⌝ }
+    ensures { λ r. ⌜ r ≡ roundedDiv 256 c state ⌝ }
+{
+    worker::divide(256, c as u64, state)
+}
+
+// A pixel divided by c with rounding.
 fn divide_pixel(pixel: u8, credited: bool, c: u32, state: u64) -> Divided
     requires { ⌜ 2 ≤ c ⌝ }
     ensures { λ r. ⌜ r ≡ roundedDiv (counted credited pixel) c state ⌝ }
     ensures { λ r. ⌜ (r .value < 256) × (r .draws ≤ 1) ⌝ }
 {
     if credited {
-        return rounding::worker::divide(256, c as u64, state);
+        return divide_credited(c, state);
     }
-    rounding::worker::divide(pixel as u64, c as u64, state)
+    worker::divide(pixel as u64, c as u64, state)
 }
 
 // Every pixel in index order.
@@ -100,4 +115,31 @@ pub fn insert(cell: &mut [u8], t: usize, c: u32, n: u64, state: u64) -> Drawn
     let zoom = layout::zoom(&cell[..], t);
     let unit = power::unit(c, zoom);
     insert_judged(cell, t, c, n, shutter, unit, state)
+}
+
+// The same for a cell that was judged, and may have been turned back.
+pub fn insert_held(
+    cell: &mut [u8],
+    params: MicroParams,
+    n: u64,
+    held: Held,
+    rounding: Rounding,
+) -> CellAnswer
+    requires { ⌜ HeldOf params (now cell) (rounding .state) held ⌝ }
+    ensures { λ r. ⌜ cellOutcome (now (cell .exit)) r ≡ insertCall params n (now (cell .entry)) (rounding .state) ⌝ }
+{
+    let verdict = held.verdict;
+    if !verdict.accepted() {
+        return answer::turned_back(verdict, rounding);
+    }
+    let drawn = insert_judged(
+        cell,
+        params.t,
+        params.c,
+        n,
+        held.shutter,
+        held.unit,
+        rounding.state,
+    );
+    answer::done(drawn)
 }

@@ -51,8 +51,7 @@ pub fn zoom(cell: &[u8], t: usize) -> u8
     requires { ⌜ (t ≤ 4096) × (length (now cell) ≡ depthOf t) ⌝ }
     ensures { λ r. ⌜ r ≡ zoomOf t (now (cell .entry)) ⌝ }
 {
-    let at = t + 2;
-    cell[at]
+    cell[t + 2]
 }
 
 pub fn set_zoom(cell: &mut [u8], t: usize, zoom: u8)

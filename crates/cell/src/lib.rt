@@ -198,18 +198,5 @@ pub fn insert(cell: &mut [u8], params: MicroParams, n: u64, rounding: Rounding) 
     ensures { λ r. ⌜ cellOutcome (now (cell .exit)) r ≡ insertCall params n (now (cell .entry)) (rounding .state) ⌝ }
 {
     let held = judging::held(&cell[..], params, rounding.state);
-    let verdict = held.verdict;
-    if !verdict.accepted() {
-        return answer::turned_back(verdict, rounding);
-    }
-    let drawn = insertion::insert_judged(
-        cell,
-        params.t,
-        params.c,
-        n,
-        held.shutter,
-        held.unit,
-        rounding.state,
-    );
-    answer::done(drawn)
+    insertion::insert_held(cell, params, n, held, rounding)
 }

@@ -9,8 +9,9 @@ use lib.ListN.{length}
 use native.Mathlib.Omega.{arith}
 use borrow.Author.Tests.{lt-ltb, le-ltb, ltb-true, ltb-false}
 use Rattle.refusal.specs.declared.Verdict.{Verdict}
-use Rattle.refusal.specs.declared.Verdict.the-variants.{Accepted, Refused}
-use Rattle.refusal.specs.Refusals.{isAccepted}
+use Rattle.refusal.specs.declared.Verdict.the-variants.{Accepted}
+use Rattle.refusal.specs.Refusals.{isAccepted, refuse}
+use Rattle.refusal.proofs.VerdictLaws.{not-refused}
 use Rattle.rounding.specs.declared.Rounding.{Rounding}
 use Rattle.cell.specs.declared.MicroParams.{MicroParams}
 use Rattle.cell.specs.declared.CellAnswer.{CellAnswer}
@@ -63,16 +64,12 @@ module _ (p : MicroParams) (n crossed : ℕ) (b : List ℕ) (σ : ℕ) (v : Verd
     cross-t = opened-fit p σ (length b) v judged ok asked h .t-high
 
     module _ (nine : Bool) (is : nine ≡ (ltb 0 crossed && ltb crossed (pixelsOf (p .t)) && ltb n crossed)) where
-      pub cross-nine : nine ≡ true → CrossingHeld p n crossed b σ (record { verdict = Refused 9; shutter = 0; unit = 0 })
-      cross-nine e =
-          let never : Refused 9 ≡ Accepted → ⊥ = refused-never (Refused 9) refl in
-          record { verdict-is = sym (opened-on p σ (length b) v judged ok asked h _ ∙ rw (← is, e) refl); judged = λ q. absurd (never q); begins = λ q. absurd (never q) }
-
-      pub cross-held : nine ≡ false → (r : Held) → HeldOf p b σ r → CrossingHeld p n crossed b σ r
-      cross-held e r held = record {
-        verdict-is = held .verdict-is ∙ opened-on p σ (length b) v judged ok asked h _ ∙ sym (opened-on p σ (length b) v judged ok asked h _ ∙ rw (← is, e) refl);
-        judged = held .judged;
-        begins = λ q. nine-passed (pixelsOf (p .t)) n crossed (sym is ∙ e);
+      -- 9 told in front of what the cell's judge says after 1, 2, 5 and 6
+      pub cross-held : (r : Held) → HeldOf p b σ r → (w : Verdict) → w ≡ refuse 9 nine (r .verdict) → CrossingHeld p n crossed b σ (record { verdict = w; shutter = r .shutter; unit = r .unit })
+      cross-held r held w e = record {
+        verdict-is = e ∙ rw (is, held .verdict-is ∙ opened-on p σ (length b) v judged ok asked h _) (sym (opened-on p σ (length b) v judged ok asked h _));
+        judged = λ q. held .judged (not-refused 9 nine (r .verdict) (sym e ∙ q) .1);
+        begins = λ q. nine-passed (pixelsOf (p .t)) n crossed (sym is ∙ not-refused 9 nine (r .verdict) (sym e ∙ q) .0);
       }
 
 -- THE CALL

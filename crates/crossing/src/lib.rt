@@ -3,7 +3,6 @@ pub mod worker;
 
 use cell::CellAnswer;
 use cell::MicroParams;
-use cell::answer;
 use rounding::Rounding;
 ghost use mathlib.Core.Path.{_≡_};
 ghost use Rattle.cell.specs.Refusals.{cellOutcome, crossCall};
@@ -19,19 +18,5 @@ pub fn enter_sub_window(
     ensures { λ r. ⌜ cellOutcome (now (cell .exit)) r ≡ crossCall params «new_n» crossed (now (cell .entry)) (rounding .state) ⌝ }
 {
     let held = worker::held(&cell[..], params, new_n, crossed, rounding.state);
-    let verdict = held.verdict;
-    if !verdict.accepted() {
-        return answer::turned_back(verdict, rounding);
-    }
-    let drawn = worker::enter_judged(
-        cell,
-        params.t,
-        params.c,
-        new_n,
-        crossed,
-        held.shutter,
-        held.unit,
-        rounding.state,
-    );
-    answer::done(drawn)
+    worker::enter_held(cell, params, new_n, crossed, held, rounding)
 }

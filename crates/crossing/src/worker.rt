@@ -1,20 +1,25 @@
 // Document 01, "Crossing" (`enter_sub_window`), in its stages: close the shutter, clear, zoom in.
+use cell::CellAnswer;
 use cell::Drawn;
 use cell::Held;
 use cell::MicroParams;
+use cell::answer;
 use cell::insertion;
 use cell::judging;
 use cell::layout;
 use cell::power;
 use refusal::Verdict;
+use rounding::Rounding;
 ghost use mathlib.Core.Path.{_≡_};
 ghost use mathlib.Core.Bool.{true, _&&_};
 ghost use lib.Dec.{ltb};
 ghost use Prim.Native.Nat.{_+_, _-_, _*_, _^_, _<_, _≤_};
 ghost use lib.ListN.{length, replicate};
 ghost use Rattle.laws.specs.Steps.{still};
+ghost use Rattle.refusal.specs.Refusals.{refuse};
 ghost use Rattle.cell.specs.Cell.{pixelsOf, pixelsIn, depthOf, soundOf};
 ghost use Rattle.cell.specs.Crossing.{closeOf, clearOf, emptied, insideOf, ceilingOf, allAtMost, timesEach, zoomedIn, zoomInOf, crossOf};
+ghost use Rattle.cell.specs.Refusals.{cellOutcome, crossCall};
 ghost use Rattle.cell.specs.Workers.{Fit, Judged, stepOf};
 ghost use Rattle.crossing.specs.Workers.{CrossingHeld};
 
@@ -30,14 +35,24 @@ pub fn held(cell: &[u8], params: MicroParams, n: u64, crossed: u64, state: u64) 
             unit: 0,
         };
     }
-    if starts_before_first(params.t, n, crossed) {
-        return Held {
-            verdict: Verdict::Refused(9),
-            shutter: 0,
-            unit: 0,
-        };
+    let nine = starts_before_first(params.t, n, crossed);
+    let held = judging::held(cell, params, state);
+    let verdict = held.verdict;
+    Held {
+        verdict: nine_first(nine, verdict),
+        shutter: held.shutter,
+        unit: held.unit,
     }
-    judging::held(cell, params, state)
+}
+
+// 9 is told before 14, whatever the cell is.
+fn nine_first(nine: bool, verdict: Verdict) -> Verdict
+    ensures { λ r. ⌜ r ≡ refuse 9 nine verdict ⌝ }
+{
+    if nine {
+        return Verdict::Refused(9);
+    }
+    verdict
 }
 
 // The sub-window that ends would stand before sub-window 0. A far jump does not ask for it.
@@ -54,7 +69,36 @@ fn starts_before_first(t: usize, n: u64, crossed: u64) -> bool
     n < crossed
 }
 
-// Moves a cell into sub-window n, `crossed` sub-windows on.
+// Moves a cell that was judged, and may have been turned back, into sub-window n, `crossed` sub-windows on.
+pub fn enter_held(
+    cell: &mut [u8],
+    params: MicroParams,
+    n: u64,
+    crossed: u64,
+    held: Held,
+    rounding: Rounding,
+) -> CellAnswer
+    requires { ⌜ CrossingHeld params n crossed (now cell) (rounding .state) held ⌝ }
+    ensures { λ r. ⌜ cellOutcome (now (cell .exit)) r ≡ crossCall params n crossed (now (cell .entry)) (rounding .state) ⌝ }
+{
+    let verdict = held.verdict;
+    if !verdict.accepted() {
+        return answer::turned_back(verdict, rounding);
+    }
+    let drawn = enter_judged(
+        cell,
+        params.t,
+        params.c,
+        n,
+        crossed,
+        held.shutter,
+        held.unit,
+        rounding.state,
+    );
+    answer::done(drawn)
+}
+
+// The same for a cell that the caller knows to be sound.
 pub fn enter_sub_window(
     cell: &mut [u8],
     t: usize,
@@ -73,7 +117,7 @@ pub fn enter_sub_window(
     enter_judged(cell, t, c, n, crossed, shutter, unit, state)
 }
 
-// The same for a cell whose shutter and unit the caller has read already.
+// The same where the caller has read the shutter and the unit already.
 pub fn enter_judged(
     cell: &mut [u8],
     t: usize,

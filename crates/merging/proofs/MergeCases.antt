@@ -5,7 +5,7 @@ use mathlib.Core.Path.{_≡_, refl, sym, ap, _∙_}
 use mathlib.Core.Bool.{Bool, true, false, not}
 use mathlib.Core.List.{List, _++_}
 use lib.ListN.{length, take, drop, getD, length-take}
-use native.Mathlib.Nat.{add-assoc, zero-add, add-zero, mod-lt}
+use native.Mathlib.Nat.{add-assoc, zero-add, add-zero, mod-lt, one-le-pow}
 use native.Mathlib.Omega.{arith}
 use borrow.Author.Tests.{not-true, not-false}
 use Rattle.laws.specs.Steps.{Step}
@@ -18,7 +18,7 @@ use Rattle.cell.specs.Merge.{addEach, cutEach, Settled, settledLater, settleFro
 use Rattle.cell.specs.Workers.{stepOf}
 use Rattle.merging.specs.Workers.{settledOf, sumsOf}
 use Rattle.cell.proofs.DivideLaws.{divide-draws}
-use Rattle.cell.proofs.PowerLaws.{max-zoom-limit}
+use Rattle.cell.proofs.PowerLaws.{max-zoom-limit, zoom-fits}
 use Rattle.cell.proofs.SumsLaws.{most-at, cut-low, settle-fit, settle-raise, settle-few}
 
 -- SETTLE: the zoom is z by now, and the sums are l
@@ -99,10 +99,21 @@ pub stored-is : (t p z s : ℕ) (b sums l l' l'' : List ℕ) → p ≡ pixelsOf 
     → l'' ≡ withShutter t s (withZoom t z (withPixels t sums b))
 stored-is t p z s b sums l l' l'' e el el' el'' = rw (el'', el', el, e) refl
 
+-- what makes no whole unit
+module _ (c z unit : ℕ) (base : 2 ≤ c) (eu : unit ≡ c ^ z) where
+  pub rest-unit : 0 < unit
+  rest-unit = rw eu (one-le-pow z c (omega arith))
+
+  pub rest-fits : z ≤ maxZoom c → (s : ℕ) → s % unit < 2 ^ 32
+  rest-fits low s = omega (arith, mod-lt s rest-unit, zoom-fits c base z low)
+
+  pub rest-is : (s : ℕ) → s % unit ≡ s % c ^ z
+  rest-is s = rw eu refl
+
 -- THE MERGE
 module _ (t c : ℕ) (b src : List ℕ) (target : ℕ) (et : target ≡ max (zoomOf t b) (zoomOf t src))
     (unit shutters : ℕ) (eu : unit ≡ c ^ target) (es : shutters ≡ shutterOf t b + shutterOf t src) where
-  pub merged-is : (n : ℕ) (σ : ℕ) (sums l : List ℕ) (r : Summed) → settledOf sums r ≡ sumsOf t c target (slotOf t n) (shutters / unit) b src σ
-      → l ≡ withShutter t (shutters % unit) (withZoom t (r .zoom) (withPixels t sums b)) → record { bytes = l; state = r .state; draws = r .draws } ≡ mergeOf t c n b src σ
+  pub merged-is : (n : ℕ) (σ : ℕ) (sums l : List ℕ) (r : Summed) (rest : ℕ) → settledOf sums r ≡ sumsOf t c target (slotOf t n) (shutters / unit) b src σ
+      → rest ≡ shutters % c ^ target → l ≡ withShutter t rest (withZoom t (r .zoom) (withPixels t sums b)) → record { bytes = l; state = r .state; draws = r .draws } ≡ mergeOf t c n b src σ
   unfolding mergeOf sumsOf
-  merged-is n σ sums l r e el = rw (el, es, eu, et) (ap (mergedWith t ((shutterOf t b + shutterOf t src) % c ^ max (zoomOf t b) (zoomOf t src)) b) (rw (es, eu, et) at e))
+  merged-is n σ sums l r rest e er el = rw (el, er, es, et) (ap (mergedWith t ((shutterOf t b + shutterOf t src) % c ^ max (zoomOf t b) (zoomOf t src)) b) (rw (es, eu, et) at e))

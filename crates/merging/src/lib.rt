@@ -4,7 +4,6 @@ pub mod sums;
 
 use cell::CellAnswer;
 use cell::MicroParams;
-use cell::answer;
 use rounding::Rounding;
 ghost use mathlib.Core.Path.{_≡_};
 ghost use Rattle.cell.specs.Refusals.{cellOutcome, mergeCall};
@@ -20,9 +19,5 @@ pub fn merge_cells(
     ensures { λ r. ⌜ cellOutcome (now (dst .exit)) r ≡ mergeCall params n (now (dst .entry)) (now (src .entry)) (rounding .state) ⌝ }
 {
     let verdict = merge::judge(&dst[..], src, params, rounding.state);
-    if !verdict.accepted() {
-        return answer::turned_back(verdict, rounding);
-    }
-    let drawn = merge::merge_cells(dst, src, params.t, params.c, n, rounding.state);
-    answer::done(drawn)
+    merge::merge_judged(dst, src, params, n, verdict, rounding)
 }

@@ -1,18 +1,22 @@
 // Document 01, "Merge" (`merge_cells`): the counts of src are added to dst's.
 use crate::sums;
+use cell::CellAnswer;
 use cell::Drawn;
 use cell::MicroParams;
+use cell::answer;
 use cell::judging;
 use cell::layout;
 use cell::power;
 use refusal::Verdict;
+use rounding::Rounding;
 ghost use mathlib.Core.Path.{_≡_};
 ghost use mathlib.Core.Bool.{true};
-ghost use Prim.Native.Nat.{_+_, _≤_, max};
+ghost use Prim.Native.Nat.{_+_, _%_, _^_, _≤_, max};
 ghost use lib.ListN.{length};
-ghost use Rattle.cell.specs.Cell.{pixelsOf, depthOf, zoomOf, shutterOf, withPixels, withZoom, withShutter};
+ghost use Rattle.cell.specs.Cell.{pixelsOf, depthOf, zoomOf, shutterOf, withPixels, withZoom, withShutter, maxZoom};
 ghost use Rattle.cell.specs.Crossing.{allAtMost};
 ghost use Rattle.cell.specs.Merge.{mergeOf};
+ghost use Rattle.cell.specs.Refusals.{cellOutcome, mergeCall};
 ghost use Rattle.cell.specs.Workers.{stepOf};
 ghost use Rattle.merging.specs.Workers.{Pair, PairJudged};
 
@@ -36,6 +40,25 @@ pub fn judge(dst: &[u8], src: &[u8], params: MicroParams, state: u64) -> Verdict
         return Verdict::Unsound(0);
     }
     Verdict::Accepted
+}
+
+// Merges two cells that were judged, and may have been turned back.
+pub fn merge_judged(
+    dst: &mut [u8],
+    src: &[u8],
+    params: MicroParams,
+    n: u64,
+    verdict: Verdict,
+    rounding: Rounding,
+) -> CellAnswer
+    requires { ⌜ PairJudged params (now dst) (now src) (rounding .state) verdict ⌝ }
+    ensures { λ r. ⌜ cellOutcome (now (dst .exit)) r ≡ mergeCall params n (now (dst .entry)) (now (src .entry)) (rounding .state) ⌝ }
+{
+    if !verdict.accepted() {
+        return answer::turned_back(verdict, rounding);
+    }
+    let drawn = merge_cells(dst, src, params.t, params.c, n, rounding.state);
+    answer::done(drawn)
 }
 
 // Two pixels of 255 and the carry of the shutters make 511, which no byte holds: the sums are worked out in an array
@@ -84,8 +107,8 @@ fn merge_by(
     let unit = power::unit(c, target);
     let shutters = both_shutters(&dst[..], src, t);
     let summed = sums::sum_up(sums, &dst[..], src, t, c, target, n, shutters / unit, state);
-    // The remainder is below the unit of the target, and so below that of every zoom above it.
-    store(dst, &sums[..], t, summed.zoom, (shutters % unit) as u32);
+    // The rest is below the unit of the target, and so below that of every zoom above it.
+    store(dst, &sums[..], t, summed.zoom, rest(shutters, c, target));
     Drawn {
         state: summed.state,
         draws: summed.draws,
@@ -109,6 +132,15 @@ fn both_shutters(dst: &[u8], src: &[u8], t: usize) -> u64
     ensures { λ r. ⌜ r ≡ shutterOf t (now (dst .entry)) + shutterOf t (now (src .entry)) ⌝ }
 {
     (layout::shutter(dst, t) as u64) + (layout::shutter(src, t) as u64)
+}
+
+// What makes no whole unit of a zoom.
+fn rest(shutters: u64, c: u32, zoom: u8) -> u32
+    requires { ⌜ (2 ≤ c) × (c ≤ 256) × (zoom ≤ maxZoom c) ⌝ }
+    ensures { λ r. ⌜ r ≡ shutters % c ^ zoom ⌝ }
+{
+    let unit = power::unit(c, zoom);
+    (shutters % unit) as u32
 }
 
 fn store(dst: &mut [u8], sums: &[u32], t: usize, zoom: u8, shutter: u32)

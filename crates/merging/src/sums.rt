@@ -38,7 +38,7 @@ pub fn sum_up(
     requires { ⌜ Fit t c (length (now dst)) × Fit t c (length (now src)) × (length (now sums) ≡ pixelsOf t) ⌝ }
     requires { ⌜ (zoomOf t (now dst) ≤ target) × (zoomOf t (now src) ≤ target) × (target ≤ maxZoom c) × (carry ≤ 1) ⌝ }
     ensures { λ r. ⌜ settledOf (now (sums .exit)) r ≡ sumsOf t c target (slotOf t n) carry (now (dst .entry)) (now (src .entry)) state ⌝ }
-    ensures { λ _. ⌜ allAtMost 255 (now (sums .exit)) ≡ true ⌝ }
+    ensures { λ r. ⌜ (allAtMost 255 (now (sums .exit)) ≡ true) × (r .zoom ≤ maxZoom c) ⌝ }
 {
     let added = add_pixels(sums, dst, src, t, c, target, state);
     add_carry(sums, layout::slot(t, n), carry);
@@ -148,7 +148,7 @@ fn scale_down(value: u64, levels: u8, c: u32, state: u64) -> Divided
 fn settle(sums: &mut [u32], zoom: u8, c: u32, state: u64) -> Summed
     requires { ⌜ (2 ≤ c) × (c ≤ 256) × (zoom ≤ maxZoom c) × (length (now sums) ≤ 4098) ⌝ }
     ensures { λ r. ⌜ settledOf (now (sums .exit)) r ≡ settleOf c zoom (now (sums .entry)) state ⌝ }
-    ensures { λ r. ⌜ (allAtMost 255 (now (sums .exit)) ≡ true) × (r .draws ≤ 31 * 4098) ⌝ }
+    ensures { λ r. ⌜ (allAtMost 255 (now (sums .exit)) ≡ true) × (r .draws ≤ 31 * 4098) × (r .zoom ≤ maxZoom c) ⌝ }
 {
     let mut target = zoom;
     let mut after = state;

@@ -5,17 +5,17 @@ use borrow.Author.Needs.{needs}
 use Rattle.cell.proofs.insertion.divide_pixel.Statement.{statement}
 use Rattle.cell.proofs.insertion.divide_pixel.Tie as tie
 
+divide-credited-requires : tie.Need-divide-credited-requires
+divide-credited-requires c κs = search needs
+
+returns : tie.Need-returns
+returns c = (rw (c .before .if1 .taken) (c .divide-credited .ensures), divided-bounds 256 _ _ _ (omega arith) (search needs) (c .divide-credited .ensures))
+
 divide-requires : tie.Need-divide-requires
 divide-requires c κs = search needs
 
-returns : tie.Need-returns
-returns c = (rw (c .before .if1 .taken) (c .divide .ensures), divided-bounds 256 _ _ _ (omega arith) (search needs) (c .divide .ensures))
-
-divide-requires-2 : tie.Need-divide-requires-2
-divide-requires-2 c κs = search needs
-
 returns-2 : tie.Need-returns-2
-returns-2 c = (rw (c .before .if1 .left) (c .divide2 .ensures), divided-bounds _ _ _ _ (omega arith) (search needs) (c .divide2 .ensures))
+returns-2 c = (rw (c .before .if1 .left) (c .divide .ensures), divided-bounds _ _ _ _ (omega arith) (search needs) (c .divide .ensures))
 
 pub divide-pixel-spec : {M : Type 1} → statement M
-divide-pixel-spec = tie.close (tie.spec divide-requires returns divide-requires-2 returns-2)
+divide-pixel-spec = tie.close (tie.spec divide-credited-requires returns divide-requires returns-2)

@@ -1,5 +1,5 @@
 -- `merge_by`: both zooms are at most the target, so two shutters are below two units and carry at most once. Assumes nothing.
-use Rattle.cell.proofs.MergeLaws.{target-high, target-high', target-low, target-fits, target-positive, remainder-fits, carry-le}
+use Rattle.cell.proofs.MergeLaws.{target-high, target-high', target-low, target-fits, target-positive, carry-le}
 use Rattle.merging.proofs.MergeCases.{merged-is}
 use borrow.Author.Needs.{needs}
 use Rattle.merging.proofs.merge.merge_by.Statement.{statement}
@@ -20,11 +20,8 @@ div-sum-up c = search (target-positive, needs)
 sum-up-requires : tie.Need-sum-up-requires
 sum-up-requires c κs = ((search needs, search needs, search needs), (search (target-high, needs), search (target-high', needs), search (target-low, needs), search (carry-le, needs)))
 
-rem-store : tie.Need-rem-store
-rem-store c = search (target-positive, needs)
-
-cast-store : tie.Need-cast-store
-cast-store c = record { fits = search (remainder-fits, needs) }
+rest-requires : tie.Need-rest-requires
+rest-requires c κs = (search needs, search needs, search (target-low, needs))
 
 store-requires : tie.Need-store-requires
 store-requires c κs = (search needs, search needs, search needs, search needs)
@@ -47,8 +44,7 @@ merge-by-spec =
     both-shutters-requires
     div-sum-up
     sum-up-requires
-    rem-store
-    cast-store
+    rest-requires
     store-requires
     same-length
     same-length-2

@@ -29,7 +29,7 @@ same-length : tie.Need-same-length Inv-loop μ-loop
 same-length c = search needs
 
 returns : tie.Need-returns Inv-loop μ-loop
-returns c = (search (settling-cut, needs), (search (cut-known, needs), search (settling-few, needs)))
+returns c = (search (settling-cut, needs), (search (cut-known, needs), search (settling-few, needs), search needs))
 
 add-target : tie.Need-add-target Inv-loop μ-loop
 add-target c = record { fits = search (settling-raise, needs) }
@@ -50,7 +50,7 @@ same-length-2 : tie.Need-same-length-2 Inv-loop μ-loop
 same-length-2 c = search needs
 
 returns-2 : tie.Need-returns-2 Inv-loop μ-loop
-returns-2 c = (search (settling-fit, needs), (search (room-known, needs), search (settling-few, needs)))
+returns-2 c = (search (settling-fit, needs), (search (room-known, needs), search (settling-few, needs), search needs))
 
 pub settle-spec : {M : Type 1} → statement M
 settle-spec =

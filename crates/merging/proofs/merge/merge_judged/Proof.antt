@@ -1,20 +1,14 @@
--- `merge_cells`: turned back by the verdict, or done by the worker that both cells were judged for. Assumes nothing.
+-- `merge_judged`: turned back by the verdict, or done by the worker that both cells were judged for. Assumes nothing.
 use Rattle.merging.proofs.MergeCalls.{merge-turned, merge-judged, merge-accepted}
 use borrow.Author.Needs.{needs}
-use Rattle.merging.proofs.merge_cells.Statement.{statement}
-use Rattle.merging.proofs.merge_cells.Tie as tie
-
-judge-requires : tie.Need-judge-requires
-judge-requires c κs = search needs
+use Rattle.merging.proofs.merge.merge_judged.Statement.{statement}
+use Rattle.merging.proofs.merge.merge_judged.Tie as tie
 
 accepted-requires : tie.Need-accepted-requires
 accepted-requires c κs = search needs
 
 turned-back-requires : tie.Need-turned-back-requires
 turned-back-requires c κs = search needs
-
-same-length : tie.Need-same-length
-same-length c = search needs
 
 returns : tie.Need-returns
 returns c = search (merge-turned, needs)
@@ -25,22 +19,20 @@ merge-cells-requires c κs = search (merge-judged, needs)
 done-requires : tie.Need-done-requires
 done-requires c κs = search needs
 
-same-length-2 : tie.Need-same-length-2
-same-length-2 c = search needs
+same-length : tie.Need-same-length
+same-length c = search needs
 
 returns-2 : tie.Need-returns-2
 returns-2 c = search (merge-accepted, needs)
 
-pub merge-cells-spec : {M : Type 1} → statement M
-merge-cells-spec =
+pub merge-judged-spec : {M : Type 1} → statement M
+merge-judged-spec =
     tie.close
     (tie.spec
-    judge-requires
     accepted-requires
     turned-back-requires
-    same-length
     returns
     merge-cells-requires
     done-requires
-    same-length-2
+    same-length
     returns-2)
