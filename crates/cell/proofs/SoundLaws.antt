@@ -13,6 +13,14 @@ use Rattle.cell.specs.Cell.{zoomOf, shutterOf, unitOf, maxZoom, soundOf}
 use Rattle.cell.specs.Workers.{Fit, Judged, unitOrZero}
 use Rattle.cell.proofs.PowerLaws.{zoom-fits}
 
+tested : (x : Bool) (s u : ℕ) → ltb s (cond x u 0) ≡ (x && ltb s u)
+tested true s u = refl
+tested false s u = le-ltb s 0 (omega arith)
+
+-- no shutter is below the 0 that stands for the unit above max_zoom
+pub fields-tested : (c z s unit : ℕ) → unit ≡ unitOrZero c z → ltb s unit ≡ (leb z (maxZoom c) && ltb s (c ^ z))
+fields-tested c z s unit eu = rw eu (tested (leb z (maxZoom c)) s (c ^ z))
+
 module _ (t c : ℕ) (b : List ℕ) where
   module _ (sound : soundOf t c b ≡ true) where
     tests : (leb (zoomOf t b) (maxZoom c) ≡ true) × (ltb (shutterOf t b) (unitOf t c b) ≡ true)
@@ -36,14 +44,14 @@ module _ (t c : ℕ) (b : List ℕ) where
   pub sound-empty : 2 ≤ c → zoomOf t b ≤ maxZoom c → shutterOf t b ≡ 0 → soundOf t c b ≡ true
   sound-empty base z s = sound-is z (rw s (one-le-pow (zoomOf t b) c (omega arith)))
 
-  tested : (x : Bool) (s u : ℕ) → ltb s (cond x u 0) ≡ (x && ltb s u)
-  tested true s u = refl
-  tested false s u = le-ltb s 0 (omega arith)
+  -- the two fields alone decide
+  pub sound-read : (z s : ℕ) (r : Bool) → z ≡ zoomOf t b → s ≡ shutterOf t b → r ≡ (leb z (maxZoom c) && ltb s (c ^ z)) → r ≡ soundOf t c b
+  unfolding soundOf
+  sound-read z s r ez es er = er ∙ rw (es, ez)
 
   -- as the code judges
   pub sound-tested : (z s unit : ℕ) → z ≡ zoomOf t b → s ≡ shutterOf t b → unit ≡ unitOrZero c z → ltb s unit ≡ soundOf t c b
-  unfolding soundOf
-  sound-tested z s unit ez es eu = rw (eu, es, ez) (tested (leb (zoomOf t b) (maxZoom c)) (shutterOf t b) (unitOf t c b))
+  sound-tested z s unit ez es eu = sound-read z s (ltb s unit) ez es (fields-tested c z s unit eu)
 
   pub unit-held : soundOf t c b ≡ true → (z unit : ℕ) → z ≡ zoomOf t b → unit ≡ unitOrZero c z → unit ≡ unitOf t c b
   unit-held sound z unit ez eu = eu ∙ rw ez (simp (le-leb _ _ (sound-zoom sound)))

@@ -5,9 +5,12 @@ use crate::layout;
 use crate::power;
 use refusal::Verdict;
 ghost use mathlib.Core.Path.{_≡_};
+ghost use mathlib.Core.Bool.{_&&_};
+ghost use Prim.Native.Nat.{_^_, _≤_};
+ghost use lib.Dec.{leb, ltb};
 ghost use lib.ListN.{length};
 ghost use Rattle.refusal.specs.declared.Verdict.the-variants.{Accepted};
-ghost use Rattle.cell.specs.Cell.{soundOf};
+ghost use Rattle.cell.specs.Cell.{maxZoom, soundOf};
 ghost use Rattle.cell.specs.Refusals.{paramsVerdict, maxZoomVerdict};
 ghost use Rattle.cell.specs.Workers.{Fit, HeldOf, beforeCell};
 
@@ -54,6 +57,14 @@ pub fn before_cell(params: MicroParams, state: u64, size: usize) -> Verdict
     Verdict::Accepted
 }
 
+// Whether a cell with this zoom and this shutter is sound.
+pub fn fields_sound(zoom: u8, shutter: u64, c: u32) -> bool
+    requires { ⌜ (2 ≤ c) × (c ≤ 256) ⌝ }
+    ensures { λ r. ⌜ r ≡ (leb zoom (maxZoom c) && ltb shutter (c ^ zoom)) ⌝ }
+{
+    shutter < power::unit_or_zero(c, zoom)
+}
+
 // Whether a cell is sound.
 pub fn sound(cell: &[u8], t: usize, c: u32) -> bool
     requires { ⌜ Fit t c (length (now cell)) ⌝ }
@@ -61,7 +72,7 @@ pub fn sound(cell: &[u8], t: usize, c: u32) -> bool
 {
     let zoom = layout::zoom(cell, t);
     let shutter = layout::shutter(cell, t);
-    (shutter as u64) < power::unit_or_zero(c, zoom)
+    fields_sound(zoom, shutter as u64, c)
 }
 
 // A cell judged: 1, 2, 5, 6, 14. What was read for it goes along, so that no call reads it again.

@@ -1,48 +1,31 @@
--- The ways through the judges of a sketch's numbers and of its stored cells.
+-- The ways through the judges of a store's length, its blocks and its stored cells.
 use Prim.Native.Nat.{ℕ, _+_, _-_, _*_, _/_, _%_, _^_, _≤_, _<_}
-use mathlib.Core.Path.{_≡_, refl, sym, ap, _∙_}
-use mathlib.Core.Bool.{Bool, true, false, not}
-use mathlib.Core.List.{List, _++_}
-use lib.ListN.{length, take, drop}
-use lib.Seq.{length-take-le, length-front}
+use mathlib.Core.Path.{_≡_, sym, ap, _∙_}
+use mathlib.Core.Bool.{Bool, true, false, not, _&&_}
+use mathlib.Core.List.{List}
+use lib.Dec.{leb, ltb}
+use lib.ListN.{length, drop, getD}
 use native.Mathlib.Omega.{arith}
 use native.Mathlib.Nat.{mul-le-mul, suc-mul}
 use borrow.Author.Tests.{eq-eqb, ne-eqb}
+use Rattle.laws.specs.Bytes.{numberOf}
 use Rattle.laws.specs.Parts.{part}
-use Rattle.laws.proofs.PartLaws.{piece-room}
+use Rattle.laws.proofs.PartLaws.{part-at, piece-room}
 use Rattle.refusal.specs.declared.Verdict.{Verdict}
 use Rattle.refusal.specs.declared.Verdict.the-variants.{Accepted, Refused, Unsound}
-use Rattle.refusal.specs.Refusals.{isAccepted}
-use Rattle.refusal.proofs.VerdictLaws.{turned-back, let-pass}
-use Rattle.rounding.specs.Refusals.{refuseState}
-use Rattle.cell.specs.Cell.{depthOf, soundOf}
-use Rattle.cell.specs.Workers.{Fit}
+use Rattle.cell.specs.Cell.{pixelsOf, zoomAt, shutterAt, depthOf, zoomOf, shutterOf, maxZoom, soundOf}
+use Rattle.cell.proofs.SoundLaws.{sound-read}
 use Rattle.microscope.specs.declared.MicroCm.{MicroCm}
 use Rattle.microscope.specs.Sketch.{cellsOf, gridBytes, cellOf, allCells}
 use Rattle.microscope.specs.Refusals.{refuseUnsound}
 use Rattle.microscope.proofs.JudgeLoops.{AllLeft, all-begin, all-found, all-on, all-end}
-use Rattle.store.specs.Store.{storeLength, blocksPass, allZero}
-use Rattle.store.specs.Refusals.{lengthVerdict, refuseBlocks, carried, gridIn, gridVerdict}
+use Rattle.blocks.specs.Blocks.{blocksPass, allZero, carried}
+use Rattle.store_header.specs.Refusals.{lengthVerdict}
+use Rattle.store.specs.Store.{storeLength}
+use Rattle.store.specs.Refusals.{refuseBlocks, gridIn, gridVerdict}
 use Rattle.store.specs.Workers.{Sized, Stored}
-use Rattle.store.proofs.FillLaws.{part-take}
-use Rattle.refusal.proofs.GateLaws.{gate-open, gate-shut}
-use Rattle.microscope.proofs.SketchGates.{settingsOf, settings-gate}
+use Rattle.blocks.proofs.FillLaws.{part-take, part-part}
 use Rattle.store.proofs.SettingsLaws.{settings-good, cells-limit, grid-limit}
-
--- THE SETTINGS, 1 to 5
-module _ (k : MicroCm) (v : Verdict) (ok : Bool) (ev : v ≡ settingsOf k Accepted) (asked : ok ≡ isAccepted v) where
-  pub settings-refused : not ok ≡ true → v ≡ lengthVerdict k
-  settings-refused h = sym (gate-shut (settingsOf k) (settings-gate k) (refuseState (k .rounding .state) Accepted) v ev (turned-back v ok asked h))
-
-  module _ (h : not ok ≡ false) where
-    past : lengthVerdict k ≡ refuseState (k .rounding .state) Accepted
-    past = gate-open (settingsOf k) (settings-gate k) (refuseState (k .rounding .state) Accepted) (sym ev ∙ let-pass v ok asked h)
-
-    pub state-none : k .rounding .state ≡ 0 → Refused 5 ≡ lengthVerdict k
-    state-none e = sym (past ∙ rw (eq-eqb _ _ e))
-
-    pub settings-pass : (k .rounding .state ≡ 0 → ⊥) → Accepted ≡ lengthVerdict k
-    settings-pass n = sym (past ∙ rw (ne-eqb _ _ n))
 
 -- THE GRID'S BYTES
 module _ (k : MicroCm) (good : lengthVerdict k ≡ Accepted) where
@@ -67,73 +50,84 @@ module _ (k : MicroCm) (good : lengthVerdict k ≡ Accepted) where
         let least : 2 * 8 ≤ gridBytes k = mul-le-mul cells depth in
         record { is = size-is; some = omega (arith, size-is); few = omega (arith, size-is, grid-limit k good) }
 
--- A STORED CELL
-pub cell-read : (t c at : ℕ) (l work y : List ℕ) (r : Bool) → y ≡ part at (length work) l → length work ≡ depthOf t → r ≡ soundOf t c y
-    → r ≡ soundOf t c (part at (depthOf t) l)
-cell-read t c at l work y r ey long er = er ∙ ap (soundOf t c) (ey ∙ rw long)
+-- A STORED CELL: the five bytes behind its pixels
+module _ (k : MicroCm) (good : lengthVerdict k ≡ Accepted) where
+  pub base-low : 2 ≤ k .params .c
+  base-low = settings-good k good .c-low
+
+  pub base-high : k .params .c ≤ 256
+  base-high = settings-good k good .c-high
+
+module _ (t at : ℕ) (l : List ℕ) where
+  abbrev cell : List ℕ
+  cell = part at (depthOf t) l
+
+  abbrev held : List ℕ
+  held = part (at + pixelsOf t) 5 l
+
+  zoom-held : getD held 0 0 ≡ zoomOf t cell
+  zoom-held =
+      let e : at + pixelsOf t + 0 ≡ at + zoomAt t = omega arith in
+      part-at (at + pixelsOf t) 5 l 0 (omega arith) ∙ ap (λ (i : ℕ). getD l i 0) e ∙ sym (part-at at (depthOf t) l (zoomAt t) (omega arith))
+
+  shutter-held : numberOf (part 1 4 held) ≡ shutterOf t cell
+  unfolding shutterOf
+  shutter-held =
+      let e : at + pixelsOf t + 1 ≡ at + shutterAt t = omega arith in
+      rw (part-part (at + pixelsOf t) 1 4 5 l (omega arith), part-part at (shutterAt t) 4 (depthOf t) l (omega arith), e)
+
+  pub cell-read : (c p : ℕ) (y : List ℕ) (s : ℕ) (r : Bool) → p ≡ pixelsOf t → y ≡ part (at + p) 5 l → s ≡ numberOf (part 1 4 y)
+      → r ≡ (leb (getD y 0 0) (maxZoom c) && ltb s (c ^ getD y 0 0)) → r ≡ soundOf t c cell
+  cell-read c p y s r ep ey es er =
+      let e : y ≡ held = ey ∙ rw ep in
+      let zoom : getD y 0 0 ≡ zoomOf t cell = ap (λ (l : List ℕ). getD l 0 0) e ∙ zoom-held in
+      sound-read t c cell (getD y 0 0) s r zoom (es ∙ ap (λ (l : List ℕ). numberOf (part 1 4 l)) e ∙ shutter-held) er
 
 -- EVERY STORED CELL: those before `index` are sound
-pub record Judging (k : MicroCm) (store work₀ work : List ℕ) (count depth index at : ℕ) : Type 0 where
+pub record Judging (k : MicroCm) (store : List ℕ) (count depth index at : ℕ) : Type 0 where
   pub left : AllLeft k (gridIn k store) count index
   pub place : at ≡ index * depth
-  pub same : length work ≡ length work₀
 
-module _ (k : MicroCm) (store work₀ : List ℕ) (count depth : ℕ) where
-  pub judging-begin : Judging k store work₀ work₀ count depth 0 0
-  judging-begin = record { left = all-begin k (gridIn k store) count; place = omega arith; same = refl }
+module _ (k : MicroCm) (store : List ℕ) (count depth : ℕ) where
+  pub judging-begin : Judging k store count depth 0 0
+  judging-begin = record { left = all-begin k (gridIn k store) count; place = omega arith }
 
   module _ (stored : Stored k (length store)) (ed : depth ≡ depthOf (k .params .t)) (ec : count ≡ cellsOf k) where
-    depth-few : depth ≤ 4104
-    depth-few = omega (arith, t-few k (stored .good))
-
     carried-room : gridBytes k ≤ 504 * (length store / 512 - 1)
     carried-room = omega (arith, stored .exact)
 
-    module _ (work : List ℕ) (index at : ℕ) (w : Judging k store work₀ work count depth index at) where
+    module _ (index at : ℕ) (w : Judging k store count depth index at) where
       pub judging-end : count ≤ index → Accepted ≡ refuseUnsound k (gridIn k store) (allCells k) Accepted
       judging-end h = all-end k (gridIn k store) count index (w .left) ec h
 
-      module _ (long : length work₀ ≡ 4104) where
-        pub work-room : depth ≤ length work
-        work-room = omega (arith, depth-few, w .same)
+      module _ (more : index < count) where
+        inside : index * depth + depth ≤ gridBytes k
+        inside = piece-room depth count index (gridBytes k) more (rw (ec, ed) (omega arith))
 
-        pub work-part : length (take depth work) ≡ depth
-        work-part = length-take-le depth work work-room
+        pub judging-room : at + depthOf (k .params .t) ≤ 504 * (length store / 512 - 1)
+        judging-room = omega (arith, ed, inside, carried-room, w .place)
 
-        pub judging-fit : Fit (k .params .t) (k .params .c) (length (take depth work))
-        judging-fit =
-            let s = settings-good k (stored .good) in
-            record { t-low = s .t-low; t-high = s .t-high; c-low = s .c-low; c-high = s .c-high; size-is = work-part ∙ ed }
+        pub next-index : index + 1 < 2 ^ 64
+        next-index = omega (arith, cells-limit k (stored .good))
 
-        module _ (more : index < count) where
-          inside : index * depth + depth ≤ gridBytes k
-          inside = piece-room depth count index (gridBytes k) more (rw (ec, ed) (omega arith))
+        pub next-place : at + depth < 2 ^ 64
+        next-place = omega (arith, inside, w .place, grid-limit k (stored .good))
 
-          pub judging-room : at + length (take depth work) ≤ 504 * (length store / 512 - 1)
-          judging-room = omega (arith, work-part, inside, carried-room, w .place)
+        module _ (r : Bool) (er : r ≡ soundOf (k .params .t) (k .params .c) (part at (depthOf (k .params .t)) (carried store))) where
+          sound-is : r ≡ soundOf (k .params .t) (k .params .c) (cellOf k (gridIn k store) index)
+          sound-is =
+              let e : at ≡ index * depthOf (k .params .t) = w .place ∙ rw ed in
+              let room : index * depthOf (k .params .t) + depthOf (k .params .t) ≤ gridBytes k = rw ed at inside in
+              er ∙ ap (soundOf (k .params .t) (k .params .c)) (rw e (sym (part-take (index * depthOf (k .params .t)) (depthOf (k .params .t)) (gridBytes k) (carried store) room)))
 
-          pub next-index : index + 1 < 2 ^ 64
-          next-index = omega (arith, cells-limit k (stored .good))
+          pub judging-found : not r ≡ true → Unsound index ≡ refuseUnsound k (gridIn k store) (allCells k) Accepted
+          judging-found n = all-found k (gridIn k store) count index (w .left) more r sound-is ec n
 
-          pub next-place : at + depth < 2 ^ 64
-          next-place = omega (arith, inside, w .place, grid-limit k (stored .good))
-
-          module _ (r : Bool) (er : r ≡ soundOf (k .params .t) (k .params .c) (part at (depthOf (k .params .t)) (carried store))) where
-            sound-is : r ≡ soundOf (k .params .t) (k .params .c) (cellOf k (gridIn k store) index)
-            sound-is =
-                let e : at ≡ index * depthOf (k .params .t) = w .place ∙ rw ed in
-                let room : index * depthOf (k .params .t) + depthOf (k .params .t) ≤ gridBytes k = rw ed at inside in
-                er ∙ ap (soundOf (k .params .t) (k .params .c)) (rw e (sym (part-take (index * depthOf (k .params .t)) (depthOf (k .params .t)) (gridBytes k) (carried store) room)))
-
-            pub judging-found : not r ≡ true → Unsound index ≡ refuseUnsound k (gridIn k store) (allCells k) Accepted
-            judging-found n = all-found k (gridIn k store) count index (w .left) more r sound-is ec n
-
-            pub judging-on : (y : List ℕ) → length y ≡ length (take depth work) → not r ≡ false → Judging k store work₀ (y ++ drop depth work) count depth (index + 1) (at + depth)
-            judging-on y ly n = record {
-              left = all-on k (gridIn k store) count index (w .left) more r sound-is n;
-              place = rw (w .place) (omega (arith, suc-mul index depth));
-              same = length-front work y depth ly ∙ w .same;
-            }
+          pub judging-on : not r ≡ false → Judging k store count depth (index + 1) (at + depth)
+          judging-on n = record {
+            left = all-on k (gridIn k store) count index (w .left) more r sound-is n;
+            place = rw (w .place) (omega (arith, suc-mul index depth));
+          }
 
 -- THE BLOCKS, 16 and 17
 module _ (store : List ℕ) where

@@ -1,16 +1,8 @@
-pub mod FillLaws
-pub mod BlockLaws
-pub mod HeaderLaws
-pub mod BlocksLaws
 pub mod GateLaws
 pub mod SettingsLaws
 pub mod StoreLaws
 pub mod LoadLaws
 pub mod Theorems
-pub mod ByteLoops
-pub mod BlockWork
-pub mod BlocksLoops
-pub mod FieldWork
 pub mod JudgeWork
 pub mod SaveWork
 pub mod LoadWork

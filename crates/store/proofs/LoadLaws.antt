@@ -11,8 +11,11 @@ use Rattle.refusal.proofs.VerdictLaws.{not-refused}
 use Rattle.microscope.specs.declared.MicroCm.{MicroCm}
 use Rattle.microscope.specs.Sketch.{gridBytes, allCells}
 use Rattle.microscope.specs.Refusals.{refuseUnsound}
-use Rattle.store.specs.Store.{storeLength, blocksPass, sketchIn, allZero}
-use Rattle.store.specs.Refusals.{lengthVerdict, wrongForm, headerVerdict, headerPayload, carried, gridIn, gridVerdict, loadVerdict}
+use Rattle.blocks.specs.Blocks.{blocksPass, allZero, carried}
+use Rattle.store_header.specs.Header.{sketchIn}
+use Rattle.store_header.specs.Refusals.{lengthVerdict, wrongForm, headerVerdict}
+use Rattle.store.specs.Store.{storeLength}
+use Rattle.store.specs.Refusals.{headerPayload, gridIn, gridVerdict, loadVerdict}
 use Rattle.refusal.proofs.GateLaws.{both-accepted}
 
 -- what a store holds: a sketch, and its grid

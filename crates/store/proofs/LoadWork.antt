@@ -1,5 +1,5 @@
--- The ways through the header's answer and a load: each way out is what its definition gives there.
-use Prim.Native.Nat.{ℕ, _+_, _-_, _*_, _/_, _%_, _^_, _≤_}
+-- The ways through a load: each way out is what its definition gives there.
+use Prim.Native.Nat.{ℕ, _+_, _-_, _*_, _/_, _%_, _≤_}
 use mathlib.Core.Path.{_≡_, refl, sym, ap, ap₂, _∙_}
 use mathlib.Core.Bool.{Bool, true, false, not}
 use mathlib.Core.List.{List}
@@ -10,76 +10,24 @@ use borrow.Author.Tests.{eqb-true, eqb-false, not-false}
 use Rattle.laws.specs.Parts.{part}
 use Rattle.laws.proofs.PartLaws.{part-length}
 use Rattle.refusal.specs.declared.Verdict.{Verdict}
-use Rattle.refusal.specs.declared.Verdict.the-variants.{Accepted, Unsound}
+use Rattle.refusal.specs.declared.Verdict.the-variants.{Accepted}
 use Rattle.refusal.specs.declared.Verdict.the-variants as verdict
-use Rattle.refusal.specs.Refusals.{numberOf, isAccepted, refuse, outside, whenAccepted}
+use Rattle.refusal.specs.Refusals.{isAccepted, whenAccepted}
 use Rattle.refusal.proofs.VerdictLaws.{refused-leaves, turned-back, let-pass, not-refused}
-use Rattle.clock.specs.Clock.{lengthOf}
 use Rattle.microscope.specs.declared.MicroCm.{MicroCm}
-use Rattle.microscope.specs.Refusals.{gridFits, noSketch}
+use Rattle.microscope.specs.Refusals.{noSketch}
 use Rattle.store.specs.declared.LoadAnswer.{LoadAnswer}
-use Rattle.store.specs.declared.Header.{Header}
-use Rattle.store.specs.declared.Header.the-variants.{Sketch, Refused}
-use Rattle.store.specs.Store.{sketchIn}
-use Rattle.store.specs.Refusals.{lengthVerdict, refuseBlocks, wrongForm, headerVerdict, headerIn, headerNumber, headerPayload, carried, gridVerdict, loadVerdict, loadAnswer, loadOutcome, loadCall}
-use Rattle.store.proofs.FillLaws.{part-take}
-use Rattle.store.proofs.HeaderLaws.{neither}
+use Rattle.store_header.specs.declared.Header.{Header}
+use Rattle.store_header.specs.declared.Header.the-variants.{Sketch, Refused}
+use Rattle.blocks.specs.Blocks.{carried}
+use Rattle.store_header.specs.Refusals.{lengthVerdict, wrongForm, headerVerdict, headerIn, headerNumber}
+use Rattle.store.specs.Refusals.{refuseBlocks, headerPayload, gridVerdict, loadVerdict, loadAnswer, loadOutcome, loadCall}
+use Rattle.blocks.proofs.FillLaws.{part-take}
+use Rattle.store_header.proofs.HeaderLaws.{neither}
+use Rattle.store_header.proofs.AnswerLaws.{header-refused, sketch-said}
 use Rattle.refusal.proofs.GateLaws.{gate-open, gate-shut}
 use Rattle.store.proofs.GateLaws.{blocks-gate}
 use Rattle.store.proofs.LoadLaws.{sketchOf, gridOf, Kept, grid-kept, Loadable, accepted-loadable}
-
--- THE HEADER'S ANSWER
-module _ (p : List ℕ) (wrong : Bool) (ew : wrong ≡ wrongForm p) where
-  pub form-told : wrong ≡ true → Refused 18 ≡ headerIn p
-  unfolding headerIn
-  form-told h = rw (← ew, h)
-
-  module _ (h : wrong ≡ false) (k : MicroCm) (ek : k ≡ sketchIn p) (v : Verdict) (ok : Bool) (ev : v ≡ lengthVerdict k) (asked : ok ≡ isAccepted v) where
-    judged-so : headerVerdict p ≡ v
-    judged-so = rw (← ew, h) (ap lengthVerdict (sym ek) ∙ sym ev)
-
-    pub number-told : not ok ≡ true → (n : ℕ) → n ≡ numberOf v → Refused n ≡ headerIn p
-    unfolding headerIn
-    number-told m n en = rw judged-so (ap Refused en ∙ sym (refused-leaves v (Sketch (sketchIn p)) (Refused (numberOf v)) (turned-back v ok asked m)))
-
-    pub sketch-told : not ok ≡ false → Sketch k ≡ headerIn p
-    unfolding headerIn
-    sketch-told m = rw (judged-so, let-pass v ok asked m, ek)
-
--- of a header 14 is never told
-data Plain : Verdict → Type 0 where
-  accepted : Plain Accepted
-  refused : (n : ℕ) → Plain (verdict.Refused n)
-
-plain-refuse : (n : ℕ) (cause : Bool) (rest : Verdict) → Plain rest → Plain (refuse n cause rest)
-plain-refuse n true rest p = refused n
-plain-refuse n false rest p = p
-
-header-plain : (p : List ℕ) → Plain (headerVerdict p)
-header-plain p =
-    let k = sketchIn p in
-    plain-refuse 18 (wrongForm p) _
-    (plain-refuse 1 (outside 1 4096 (k .params .t)) _
-    (plain-refuse 2 (outside 2 256 (k .params .c)) _
-    (plain-refuse 3 (outside 1 (2 ^ 53) (lengthOf (k .clock))) _
-    (plain-refuse 4 (not (gridFits (k .rows) (k .cols))) _ (plain-refuse 5 (eqb (k .rounding .state) 0) _ accepted)))))
-
-plain-number : (v : Verdict) → Plain v → (k : MicroCm) (n : ℕ) → whenAccepted v (Sketch k) (Refused (numberOf v)) ≡ Refused n → v ≡ verdict.Refused n
-plain-number v accepted k n e = cc
-plain-number v (refused m) k n e = cc
-
-header-refused : (p : List ℕ) (n : ℕ) → headerIn p ≡ Refused n → headerVerdict p ≡ verdict.Refused n
-unfolding headerIn
-header-refused p n e = plain-number (headerVerdict p) (header-plain p) (sketchIn p) n e
-
-header-sketch : (p : List ℕ) (k : MicroCm) → headerIn p ≡ Sketch k → (headerVerdict p ≡ Accepted) × (k ≡ sketchIn p)
-unfolding headerIn
-header-sketch p k e = by (headerVerdict p) e
-  where
-    by : (v : Verdict) → whenAccepted v (Sketch (sketchIn p)) (Refused (numberOf v)) ≡ Sketch k → (v ≡ Accepted) × (k ≡ sketchIn p)
-    by Accepted e = (refl, cc)
-    by (verdict.Refused n) e = (cc, cc)
-    by (Unsound j) e = (cc, cc)
 
 -- LOAD
 module _ (g store : List ℕ) where
@@ -121,10 +69,10 @@ module _ (g store : List ℕ) where
 
       module _ (k : MicroCm) (ek : h ≡ Sketch k) where
         sketch-is : k ≡ sketchOf store
-        sketch-is = header-sketch (headerPayload store) k (answered ∙ ek) .1
+        sketch-is = sketch-said (headerPayload store) k (answered ∙ ek) .1
 
         accepts : headerVerdict (headerPayload store) ≡ Accepted
-        accepts = header-sketch (headerPayload store) k (answered ∙ ek) .0
+        accepts = sketch-said (headerPayload store) k (answered ∙ ek) .0
 
         pub load-good : lengthVerdict k ≡ Accepted
         load-good = rw sketch-is (not-refused 18 (wrongForm (headerPayload store)) (lengthVerdict (sketchOf store)) accepts .1)

@@ -3,7 +3,6 @@ use Prim.Native.Nat.{ℕ, _+_, _-_, _*_, _/_, _≤_}
 use mathlib.Core.Path.{_≡_, refl, sym, ap, ap₂, _∙_}
 use mathlib.Core.Bool.{Bool, true, false, not}
 use mathlib.Core.List.{List, [], _++_, append-nil}
-use lib.Dec.{eqb}
 use lib.ListN.{length, take, drop, length-append, length-drop, drop-of-length-le}
 use lib.Seq.{take-all, take-at, drop-at}
 use native.Mathlib.Omega.{arith}
@@ -16,10 +15,13 @@ use Rattle.microscope.specs.declared.MicroCm.{MicroCm}
 use Rattle.microscope.specs.Sketch.{gridBytes, allCells}
 use Rattle.microscope.specs.Refusals.{refuseGrid, refuseSketch, refuseUnsound, sketchVerdict}
 use Rattle.microscope.specs.Workers.{Ready}
-use Rattle.store.specs.Store.{blockOf, headerOf, blocksFrom, gridBlocks, storeLength, storeOf}
-use Rattle.store.specs.Refusals.{lengthVerdict, lengthCall, refuseLength, saveVerdict, saveOutcome, saveCall}
+use Rattle.blocks.specs.Blocks.{blockOf, blocksFrom}
+use Rattle.store_header.specs.Header.{headerOf}
+use Rattle.store_header.specs.Refusals.{lengthVerdict}
+use Rattle.store.specs.Store.{gridBlocks, storeLength, storeOf}
+use Rattle.store.specs.Refusals.{lengthCall, refuseLength, saveVerdict, saveOutcome, saveCall}
 use Rattle.store.specs.Workers.{Sized}
-use Rattle.store.proofs.BlockLaws.{block-length}
+use Rattle.blocks.proofs.BlockLaws.{block-length}
 use Rattle.refusal.proofs.GateLaws.{gate-open, gate-shut, gate-passed}
 use Rattle.microscope.proofs.ReadyLaws.{ready-of}
 use Rattle.microscope.proofs.SketchGates.{judged, judged-gate, sketch-gate, unsound-gate}

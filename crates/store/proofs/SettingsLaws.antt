@@ -10,9 +10,10 @@ use Rattle.cell.specs.Cell.{depthOf}
 use Rattle.microscope.specs.declared.MicroCm.{MicroCm}
 use Rattle.microscope.specs.Sketch.{cellsOf, gridBytes}
 use Rattle.microscope.proofs.SettingsLaws.{GoodSettings, good-settings}
-use Rattle.store.specs.Refusals.{lengthVerdict}
-use Rattle.store.specs.Store.{epochOf, readingOf, gridBlocks}
-use Rattle.store.proofs.HeaderLaws.{Fits}
+use Rattle.store_header.specs.Header.{epochOf, readingOf}
+use Rattle.store_header.specs.Refusals.{lengthVerdict}
+use Rattle.store.specs.Store.{gridBlocks}
+use Rattle.store_header.proofs.HeaderLaws.{Fits}
 use Rattle.refusal.proofs.GateLaws.{gate-passed}
 use Rattle.microscope.proofs.SketchGates.{settingsOf, settings-gate}
 

@@ -15,13 +15,16 @@ use Rattle.refusal.proofs.VerdictLaws.{not-refused}
 use Rattle.microscope.specs.declared.MicroCm.{MicroCm}
 use Rattle.microscope.specs.Sketch.{gridBytes, allCells}
 use Rattle.microscope.specs.Refusals.{refuseSketch, refuseUnsound, noSketch}
-use Rattle.store.specs.Store.{filled, blockOf, headerOf, blocksFrom, storeOf, gridBlocks, blockPasses, blocksPass, payloadsOf}
-use Rattle.store.specs.Refusals.{lengthVerdict, headerPayload, carried, refuseLength, loadVerdict, loadAnswer, loadOutcome, loadCall, saveVerdict, saveOutcome, saveCall}
-use Rattle.store.proofs.FillLaws.{Small, small-take, small-drop, filled-full, behind-zero, cut-alike}
-use Rattle.store.proofs.BlockLaws.{block-same, block-back}
-use Rattle.store.proofs.BlocksLaws.{pass-suc, blocks-changed, blocks-back, from-alike}
-use Rattle.store.proofs.BlocksLoops.{carried-length}
-use Rattle.store.proofs.HeaderLaws.{header-form, header-sketch, header-back}
+use Rattle.blocks.specs.Blocks.{filled, blockOf, blocksFrom, blockPasses, blocksPass, payloadsOf, carried}
+use Rattle.store_header.specs.Header.{headerOf}
+use Rattle.store_header.specs.Refusals.{lengthVerdict}
+use Rattle.store.specs.Store.{storeOf, gridBlocks}
+use Rattle.store.specs.Refusals.{headerPayload, refuseLength, loadVerdict, loadAnswer, loadOutcome, loadCall, saveVerdict, saveOutcome, saveCall}
+use Rattle.blocks.proofs.FillLaws.{Small, small-take, small-drop, filled-full, behind-zero, cut-alike}
+use Rattle.blocks.proofs.BlockLaws.{block-same, block-back}
+use Rattle.blocks.proofs.ChainLaws.{pass-suc, blocks-changed, blocks-back, from-alike}
+use Rattle.blocks.proofs.ChainLoops.{carried-length}
+use Rattle.store_header.proofs.HeaderLaws.{header-form, header-sketch, header-back}
 use Rattle.refusal.proofs.GateLaws.{gate-passed, gate-open}
 use Rattle.microscope.proofs.SketchGates.{judged, judged-gate, unsound-gate}
 use Rattle.store.proofs.SettingsLaws.{Ranged, settings-fit, blocks-few}

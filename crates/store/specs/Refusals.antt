@@ -1,26 +1,23 @@
 -- Document 01, "Turning a call back", for the block store; a load has its own order. Each call's answer, whole, and the bytes that it leaves.
-use Prim.Native.Nat.{ℕ, _-_, _/_, _%_}
-use mathlib.Core.Bool.{Bool, not, _&&_, _||_}
+use Prim.Native.Nat.{ℕ, _/_, _%_}
+use mathlib.Core.Bool.{not, _||_}
 use mathlib.Core.List.{List}
-use lib.Dec.{ltb, eqb}
+use lib.Dec.{eqb}
 use lib.ListN.{length, take, drop}
 use Rattle.refusal.specs.declared.Verdict.{Verdict}
 use Rattle.refusal.specs.declared.Verdict.the-variants as verdict
-use Rattle.refusal.specs.Refusals.{numberOf, refuse, whenAccepted}
-use Rattle.rounding.specs.Refusals.{refuseState}
+use Rattle.refusal.specs.Refusals.{refuse, whenAccepted}
 use Rattle.microscope.specs.declared.MicroCm.{MicroCm}
 use Rattle.microscope.specs.Sketch.{gridBytes, allCells}
-use Rattle.microscope.specs.Refusals.{refuseSettings, refuseGrid, refuseSketch, refuseUnsound, noSketch}
+use Rattle.microscope.specs.Refusals.{refuseGrid, refuseSketch, refuseUnsound, noSketch}
 use Rattle.store.specs.declared.LengthAnswer.{LengthAnswer}
-use Rattle.store.specs.declared.Header.{Header}
-use Rattle.store.specs.declared.Header.the-variants.{Sketch, Refused}
 use Rattle.store.specs.declared.LoadAnswer.{LoadAnswer}
-use Rattle.store.specs.Store.{blockBytes, storeLength, storeOf, blocksPass, payloadOf, payloadsOf, fieldOf, sketchIn, allZero}
+use Rattle.blocks.specs.Blocks.{blockBytes, blocksPass, payloadOf, allZero, carried}
+use Rattle.store_header.specs.Header.{sketchIn}
+use Rattle.store_header.specs.Refusals.{lengthVerdict, headerVerdict}
+use Rattle.store.specs.Store.{storeLength, storeOf}
 
 -- THE EXACT LENGTH of a sketch's store
-abbrev pub lengthVerdict : MicroCm → Verdict
-lengthVerdict k = refuseSettings (k .rows) (k .cols) (k .params) (k .clock) (refuseState (k .rounding .state) verdict.Accepted)
-
 unfoldable pub lengthCall : MicroCm → LengthAnswer
 lengthCall k = record { verdict = lengthVerdict k; length = whenAccepted (lengthVerdict k) (storeLength k) 0 }
 
@@ -43,31 +40,8 @@ unfoldable pub saveCall : MicroCm → List ℕ → List ℕ → SaveOutcome
 saveCall k g store = saveOutcome (saveVerdict k g store) (whenAccepted (saveVerdict k g store) (storeOf k g) store)
 
 -- LOAD
--- 18 over block 0: the form, the kind of clock, a byte that must be 0, the epoch of a count clock
-unfoldable pub wrongForm : List ℕ → Bool
-wrongForm p =
-    not (eqb (fieldOf 4 0 p) 1) || ltb 1 (fieldOf 4 20 p) || not (allZero (drop 56 p)) || (eqb (fieldOf 4 20 p) 0 && not (eqb (fieldOf 8 32 p) 0))
-
--- the header's answer: 18, then 1 to 5
-abbrev pub headerVerdict : List ℕ → Verdict
-headerVerdict p =
-    let k = sketchIn p in
-    refuse 18 (wrongForm p) (refuseSettings (k .rows) (k .cols) (k .params) (k .clock) (refuseState (k .rounding .state) verdict.Accepted))
-
-unfoldable pub headerIn : List ℕ → Header
-headerIn p = whenAccepted (headerVerdict p) (Sketch (sketchIn p)) (Refused (numberOf (headerVerdict p)))
-
--- document 01's number of a header's answer; 0 is no number of the table
-abbrev pub headerNumber : Header → ℕ
-headerNumber (Sketch k) = 0
-headerNumber (Refused n) = n
-
 abbrev pub headerPayload : List ℕ → List ℕ
 headerPayload store = payloadOf (take blockBytes store)
-
--- what the blocks from 1 on carry: the grid, and the fill behind it
-abbrev pub carried : List ℕ → List ℕ
-carried store = payloadsOf (length store / blockBytes - 1) (drop blockBytes store)
 
 -- the grid that is stored for a sketch
 abbrev pub gridIn : MicroCm → List ℕ → List ℕ

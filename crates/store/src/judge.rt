@@ -1,5 +1,6 @@
 // What a save and a load test before anything is written, each in its own order.
-use crate::blocks;
+use blocks::bytes;
+use blocks::chain;
 use microscope::MicroCm;
 use refusal::Verdict;
 ghost use mathlib.Core.Path.{_≡_};
@@ -8,28 +9,12 @@ ghost use lib.ListN.{length};
 ghost use Rattle.laws.specs.Parts.{part};
 ghost use Rattle.refusal.specs.declared.Verdict.the-variants.{Accepted};
 ghost use Rattle.cell.specs.Cell.{depthOf, soundOf};
-ghost use Rattle.cell.specs.Workers.{Fit};
 ghost use Rattle.microscope.specs.Sketch.{allCells};
 ghost use Rattle.microscope.specs.Refusals.{refuseUnsound};
-ghost use Rattle.store.specs.Refusals.{lengthVerdict, refuseBlocks, carried, gridIn, gridVerdict};
+ghost use Rattle.blocks.specs.Blocks.{carried};
+ghost use Rattle.store_header.specs.Refusals.{lengthVerdict};
+ghost use Rattle.store.specs.Refusals.{refuseBlocks, gridIn, gridVerdict};
 ghost use Rattle.store.specs.Workers.{Sized, Stored};
-
-// 1 to 5.
-pub fn settings(sketch: MicroCm) -> Verdict
-    ensures { λ r. ⌜ r ≡ lengthVerdict sketch ⌝ }
-{
-    let params = sketch.params;
-    let clock = sketch.clock;
-    let rounding = sketch.rounding;
-    let judged = microscope::judge::settings(sketch.rows, sketch.cols, params, clock);
-    if !judged.accepted() {
-        return judged;
-    }
-    if rounding.state == 0 {
-        return Verdict::Refused(5);
-    }
-    Verdict::Accepted
-}
 
 pub fn grid_bytes(sketch: MicroCm) -> usize
     requires { ⌜ lengthVerdict sketch ≡ Accepted ⌝ }
@@ -47,18 +32,22 @@ pub fn store_bytes(size: usize) -> usize
     512 * (1 + (size + 503) / 504)
 }
 
-// Whether the cell that the store carries from `at` on is sound. It may lie in two blocks, so it is read into `work` first.
-fn cell_sound(work: &mut [u8], sketch: MicroCm, store: &[u8], at: usize) -> bool
-    requires { ⌜ Fit (sketch .params .t) (sketch .params .c) (length (now work)) × (at + length (now work) ≤ 504 * (length (now store) / 512 - 1)) ⌝ }
+// Whether the cell that the store carries from `at` on is sound. Its zoom and its shutter stand together behind its pixels,
+// and no other byte of it is read.
+fn cell_sound(sketch: MicroCm, store: &[u8], at: usize) -> bool
+    requires { ⌜ (lengthVerdict sketch ≡ Accepted) × (at + depthOf (sketch .params .t) ≤ 504 * (length (now store) / 512 - 1)) ⌝ }
     ensures { λ r. ⌜ r ≡ soundOf (sketch .params .t) (sketch .params .c) (part at (depthOf (sketch .params .t)) (carried (now (store .entry)))) ⌝ }
 {
     let params = sketch.params;
-    blocks::copy_out(work, store, at);
-    cell::judging::sound(&work[..], params.t, params.c)
+    let mut held = [0u8; 5];
+    chain::copy_out(&mut held, store, at + cell::layout::pixels(params.t));
+    let shutter = bytes::number(&held[1..5]);
+    cell::judging::fields_sound(held[0], shutter, params.c)
 }
 
-fn cells_with(work: &mut [u8], sketch: MicroCm, store: &[u8]) -> Verdict
-    requires { ⌜ Stored sketch (length (now store)) × (length (now work) ≡ 4104) ⌝ }
+// 14 over the stored cells.
+pub fn cells(sketch: MicroCm, store: &[u8]) -> Verdict
+    requires { ⌜ Stored sketch (length (now store)) ⌝ }
     ensures { λ r. ⌜ r ≡ refuseUnsound sketch (gridIn sketch (now (store .entry))) (allCells sketch) Accepted ⌝ }
 {
     let params = sketch.params;
@@ -67,22 +56,13 @@ fn cells_with(work: &mut [u8], sketch: MicroCm, store: &[u8]) -> Verdict
     let mut index: usize = 0;
     let mut at: usize = 0;
     while index < count {
-        if !cell_sound(&mut work[..depth], sketch, store, at) {
+        if !cell_sound(sketch, store, at) {
             return Verdict::Unsound(index);
         }
         index += 1;
         at += depth;
     }
     Verdict::Accepted
-}
-
-// 14 over the stored cells. The deepest cell has 4,104 bytes.
-pub fn cells(sketch: MicroCm, store: &[u8]) -> Verdict
-    requires { ⌜ Stored sketch (length (now store)) ⌝ }
-    ensures { λ r. ⌜ r ≡ refuseUnsound sketch (gridIn sketch (now (store .entry))) (allCells sketch) Accepted ⌝ }
-{
-    let mut work = [0u8; 4104];
-    cells_with(&mut work, sketch, store)
 }
 
 // 16 for a store that was cut, 17 over every block.
@@ -95,7 +75,7 @@ pub fn whole(store: &[u8]) -> Verdict
     if store.len() % 512 != 0 {
         return Verdict::Refused(16);
     }
-    if blocks::all_pass(store) {
+    if chain::all_pass(store) {
         return Verdict::Accepted;
     }
     Verdict::Refused(17)
@@ -110,7 +90,7 @@ pub fn behind_header(sketch: MicroCm, grid: &[u8], store: &[u8]) -> Verdict
     if store.len() != store_bytes(size) {
         return Verdict::Refused(16);
     }
-    if !blocks::fill_clear(store, size) {
+    if !chain::fill_clear(store, size) {
         return Verdict::Refused(18);
     }
     if grid.len() != size {

@@ -1,34 +1,28 @@
 // Document 01, "Audit and block store": a sketch and its grid in blocks of 512 bytes.
 //
 // A store is what is written before the key is turned off: block 0 holds the sketch, the blocks behind it the grid.
-mod block;
-mod blocks;
-mod bytes;
-mod fields;
 mod judge;
 
+use blocks::block;
+use blocks::chain;
 use cell::MicroParams;
 use clock::SubWindowClock;
 use microscope::MicroCm;
 use refusal::Verdict;
 use rounding::Rounding;
+use store_header::Header;
+use store_header::fields;
 ghost use mathlib.Core.Path.{_≡_};
 ghost use lib.ListN.{length};
 ghost use Rattle.microscope.specs.Refusals.{noSketch};
 ghost use Rattle.microscope.specs.Sketch.{gridBytes};
 ghost use Rattle.store.specs.Store.{storeLength, storeOf};
-ghost use Rattle.store.specs.Refusals.{lengthCall, headerNumber, saveOutcome, saveCall, loadAnswer, loadOutcome, loadCall};
+ghost use Rattle.store.specs.Refusals.{lengthCall, saveOutcome, saveCall, loadAnswer, loadOutcome, loadCall};
 
 // The exact length of a sketch's store; 0 if refused.
 pub struct LengthAnswer {
     pub verdict: Verdict,
     pub length: usize,
-}
-
-// What the header's block says: a sketch, or the number by which it is refused.
-pub enum Header {
-    Sketch(MicroCm),
-    Refused(u8),
 }
 
 // The sketch that was loaded; one that every call refuses if the load is refused.
@@ -37,23 +31,11 @@ pub struct LoadAnswer {
     pub sketch: MicroCm,
 }
 
-impl Header {
-    // Document 01's number, and 0 for a sketch.
-    pub fn number(self) -> u8
-        ensures { λ r. ⌜ r ≡ headerNumber self ⌝ }
-    {
-        match self {
-            Header::Sketch(_) => 0,
-            Header::Refused(number) => number,
-        }
-    }
-}
-
 // How many bytes to lend for a save.
 pub fn store_length(sketch: MicroCm) -> LengthAnswer
     ensures { λ r. ⌜ r ≡ lengthCall sketch ⌝ }
 {
-    let verdict = judge::settings(sketch);
+    let verdict = store_header::judge::settings(sketch);
     if !verdict.accepted() {
         return LengthAnswer { verdict, length: 0 };
     }
@@ -69,7 +51,7 @@ fn write(store: &mut [u8], sketch: MicroCm, grid: &[u8])
     let mut header = [0u8; 56];
     fields::write_header(&mut header, sketch);
     block::write_block(&mut store[0..512], 0, &header);
-    blocks::write_blocks(&mut store[512..], grid);
+    chain::write_blocks(&mut store[512..], grid);
 }
 
 // The sketch and its grid into a store of exactly `store_length` bytes: the whole of it is written, or no byte.
@@ -129,6 +111,6 @@ pub fn load(grid: &mut [u8], store: &[u8]) -> LoadAnswer
     if !verdict.accepted() {
         return turned_back(verdict);
     }
-    blocks::copy_out(grid, store, 0);
+    chain::copy_out(grid, store, 0);
     LoadAnswer { verdict, sketch }
 }

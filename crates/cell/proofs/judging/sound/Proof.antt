@@ -1,5 +1,5 @@
--- `judging::sound`: no shutter is below 0, which stands for the unit above max_zoom. Assumes nothing.
-use Rattle.cell.proofs.SoundLaws.{sound-tested}
+-- `judging::sound`: the two fields that decide are read where the layout has them. Assumes nothing.
+use Rattle.cell.proofs.SoundLaws.{sound-read}
 use borrow.Author.Needs.{needs}
 use Rattle.cell.proofs.judging.sound.Statement.{statement}
 use Rattle.cell.proofs.judging.sound.Tie as tie
@@ -10,15 +10,16 @@ zoom-requires c κs = search needs
 shutter-requires : tie.Need-shutter-requires
 shutter-requires c κs = search needs
 
-cast-result : tie.Need-cast-result
-cast-result c = search needs
+cast-fields-sound : tie.Need-cast-fields-sound
+cast-fields-sound c = search needs
 
-unit-or-zero-requires : tie.Need-unit-or-zero-requires
-unit-or-zero-requires c κs = search needs
+fields-sound-requires : tie.Need-fields-sound-requires
+fields-sound-requires c κs = search needs
 
 returns : tie.Need-returns
-returns c = search (sound-tested, needs)
+returns c = search (sound-read, needs)
 
 pub sound-spec : {M : Type 1} → statement M
 sound-spec =
-    tie.close (tie.spec zoom-requires shutter-requires cast-result unit-or-zero-requires returns)
+    tie.close
+    (tie.spec zoom-requires shutter-requires cast-fields-sound fields-sound-requires returns)

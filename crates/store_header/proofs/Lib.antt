@@ -1,0 +1,3 @@
+pub mod HeaderLaws
+pub mod FieldWork
+pub mod AnswerLaws

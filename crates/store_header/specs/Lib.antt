@@ -1,0 +1,3 @@
+pub mod Header
+pub mod Refusals
+pub mod Workers

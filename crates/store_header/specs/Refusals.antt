@@ -1,0 +1,39 @@
+-- Document 01, "Turning a call back", for the header: what the numbers of a sketch are refused by, and what a header tells.
+use Prim.Native.Nat.{ℕ}
+use mathlib.Core.Bool.{Bool, not, _&&_, _||_}
+use mathlib.Core.List.{List}
+use lib.Dec.{ltb, eqb}
+use lib.ListN.{drop}
+use Rattle.refusal.specs.declared.Verdict.{Verdict}
+use Rattle.refusal.specs.declared.Verdict.the-variants as verdict
+use Rattle.refusal.specs.Refusals.{numberOf, refuse, whenAccepted}
+use Rattle.rounding.specs.Refusals.{refuseState}
+use Rattle.microscope.specs.declared.MicroCm.{MicroCm}
+use Rattle.microscope.specs.Refusals.{refuseSettings}
+use Rattle.blocks.specs.Blocks.{allZero}
+use Rattle.store_header.specs.declared.Header.{Header}
+use Rattle.store_header.specs.declared.Header.the-variants.{Sketch, Refused}
+use Rattle.store_header.specs.Header.{fieldOf, sketchIn}
+
+-- 1 to 5: all that a store's length and its header depend on
+abbrev pub lengthVerdict : MicroCm → Verdict
+lengthVerdict k = refuseSettings (k .rows) (k .cols) (k .params) (k .clock) (refuseState (k .rounding .state) verdict.Accepted)
+
+-- 18 over block 0: the form, the kind of clock, a byte that must be 0, the epoch of a count clock
+unfoldable pub wrongForm : List ℕ → Bool
+wrongForm p =
+    not (eqb (fieldOf 4 0 p) 1) || ltb 1 (fieldOf 4 20 p) || not (allZero (drop 56 p)) || (eqb (fieldOf 4 20 p) 0 && not (eqb (fieldOf 8 32 p) 0))
+
+-- the header's answer: 18, then 1 to 5
+abbrev pub headerVerdict : List ℕ → Verdict
+headerVerdict p =
+    let k = sketchIn p in
+    refuse 18 (wrongForm p) (refuseSettings (k .rows) (k .cols) (k .params) (k .clock) (refuseState (k .rounding .state) verdict.Accepted))
+
+unfoldable pub headerIn : List ℕ → Header
+headerIn p = whenAccepted (headerVerdict p) (Sketch (sketchIn p)) (Refused (numberOf (headerVerdict p)))
+
+-- document 01's number of a header's answer; 0 is no number of the table
+abbrev pub headerNumber : Header → ℕ
+headerNumber (Sketch k) = 0
+headerNumber (Refused n) = n
