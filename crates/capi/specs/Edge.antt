@@ -3,7 +3,7 @@ use Prim.Native.Nat.{ℕ}
 use mathlib.Core.Bool.{cond}
 use mathlib.Core.List.{List}
 use lib.Dec.{eqb}
-use Rattle.laws.specs.Figure.{figure}
+use lib.Ieee.{Float}
 use Rattle.refusal.specs.declared.Verdict.{Verdict}
 use Rattle.refusal.specs.Refusals.{numberOf, indexOf, whenAccepted}
 use Rattle.cell.specs.declared.MicroParams.{MicroParams}
@@ -102,6 +102,9 @@ readingOf r =
 abbrev pub valueOf : Verdict → ℕ → PlainNumber
 valueOf v n = record { number = numberOf v; index = indexOf v; value = n }
 
+abbrev pub figureOf : Verdict → Float → PlainFigure
+figureOf v x = record { number = numberOf v; index = indexOf v; value = x }
+
 abbrev pub meanOf : MeanAnswer → PlainNumber
 meanOf r = valueOf (r .verdict) (r .mean)
 
@@ -121,7 +124,7 @@ abbrev pub shutterOf : ShutterAnswer → PlainNumber
 shutterOf r = valueOf (r .verdict) (r .shutter)
 
 abbrev pub pixelOf : PixelAnswer → PlainFigure
-pixelOf r = record { number = numberOf (r .verdict); index = indexOf (r .verdict); value = r .items }
+pixelOf r = figureOf (r .verdict) (r .items)
 
 -- THE VERDICT ALONE
 abbrev pub verdictOf : Verdict → PlainVerdict

@@ -19,8 +19,8 @@ use refusal::Verdict;
 use rounding::Rounding;
 use store::LoadAnswer;
 ghost use mathlib.Core.Path.{_≡_};
-ghost use Rattle.refusal.specs.Refusals.{numberOf, indexOf};
-ghost use Rattle.capi.specs.Edge.{clockOf, sketchOf, plainOf, answerOf, noPlain, readingOf, valueOf, verdictOf, auditOf, loadAnswerOf, drawnOf};
+ghost use Rattle.refusal.specs.Refusals.{numberOf};
+ghost use Rattle.capi.specs.Edge.{clockOf, sketchOf, plainOf, answerOf, noPlain, readingOf, valueOf, figureOf, verdictOf, auditOf, loadAnswerOf, drawnOf};
 
 // A kind that is no kind gives a clock that every call refuses by 3.
 pub fn clock(kind: u32, length: u64, epoch: u64, reading: u64) -> SubWindowClock
@@ -199,7 +199,7 @@ pub fn value(verdict: Verdict, value: u64) -> PlainNumber
 }
 
 pub fn figure(verdict: Verdict, value: f64) -> PlainFigure
-    ensures { λ r. ⌜ r ≡ record { number = numberOf verdict; index = indexOf verdict; value = value } ⌝ }
+    ensures { λ r. ⌜ r ≡ figureOf verdict value ⌝ }
 {
     PlainFigure {
         number: number(verdict),

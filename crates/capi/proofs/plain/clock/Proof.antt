@@ -1,19 +1,17 @@
+-- `clock`: one of two kinds, or none. Assumes nothing.
+use Rattle.capi.proofs.PlainLaws.{kind-count, kind-time, kind-none}
+use borrow.Author.Needs.{needs}
 use Rattle.capi.proofs.plain.clock.Statement.{statement}
 use Rattle.capi.proofs.plain.clock.Tie as tie
-use Rattle.capi.proofs.plain.clock.Reads as reads
-use Rattle.capi.proofs.plain.clock.Lts as lts
 
--- src/plain.rt:30:9
 returns : tie.Need-returns
-returns c = ?
+returns c = search (kind-count, needs)
 
--- src/plain.rt:36:9
 returns-2 : tie.Need-returns-2
-returns-2 c = ?
+returns-2 c = search (kind-time, needs)
 
--- src/plain.rt:26:1
 returns-3 : tie.Need-returns-3
-returns-3 c = ?
+returns-3 c = search (kind-none, needs)
 
 pub clock-spec : {M : Type 1} → statement M
 clock-spec = tie.close (tie.spec returns returns-2 returns-3)

@@ -1,0 +1,108 @@
+-- A call at the edge is the core's call between two changes of form, so its outcome is the core's in the other form. Assumes nothing.
+use Prim.Native.Nat.{ℕ}
+use mathlib.Core.Path.{_≡_, ap, _∙_}
+use mathlib.Core.List.{List}
+use lib.Ieee.{Float}
+use Rattle.refusal.specs.declared.Verdict.{Verdict}
+use Rattle.cell.specs.declared.MicroParams.{MicroParams}
+use Rattle.cell.specs.declared.LayoutAnswer.{LayoutAnswer}
+use Rattle.cell.specs.declared.ZoomAnswer.{ZoomAnswer}
+use Rattle.cell.specs.declared.ShutterAnswer.{ShutterAnswer}
+use Rattle.cell.specs.declared.PixelAnswer.{PixelAnswer}
+use Rattle.cell.specs.declared.CellAnswer.{CellAnswer}
+use Rattle.cell.specs.Refusals.{CellOutcome, cellOutcome, layoutCall, maxZoomCall, cellVerdict, zoomCall, shutterCall, pixelCall}
+use Rattle.clock.specs.declared.SubWindowClock.{SubWindowClock}
+use Rattle.microscope.specs.declared.MicroCm.{MicroCm}
+use Rattle.microscope.specs.declared.SketchAnswer.{SketchAnswer}
+use Rattle.microscope.specs.declared.ReadingAnswer.{ReadingAnswer}
+use Rattle.microscope.specs.declared.MeanAnswer.{MeanAnswer}
+use Rattle.microscope.specs.declared.HighestAnswer.{HighestAnswer}
+use Rattle.microscope.specs.declared.AuditAnswer.{AuditAnswer}
+use Rattle.microscope.specs.Refusals.{SketchOutcome, sketchOutcome, freshCall, updateCall, updateAtCall, advanceCall, readCall, readWithCall, meanCall, bucketVerdict, highestCall, auditCall, mergeCall}
+use Rattle.store.specs.declared.LengthAnswer.{LengthAnswer}
+use Rattle.store.specs.declared.LoadAnswer.{LoadAnswer}
+use Rattle.store.specs.Refusals.{saveOutcome, loadOutcome, lengthCall, saveCall, loadCall}
+use Rattle.capi.specs.declared.PlainSketch.{PlainSketch}
+use Rattle.capi.specs.declared.PlainAnswer.{PlainAnswer}
+use Rattle.capi.specs.declared.PlainReading.{PlainReading}
+use Rattle.capi.specs.declared.PlainNumber.{PlainNumber}
+use Rattle.capi.specs.declared.PlainFigure.{PlainFigure}
+use Rattle.capi.specs.declared.PlainVerdict.{PlainVerdict}
+use Rattle.capi.specs.declared.PlainAudit.{PlainAudit}
+use Rattle.capi.specs.declared.PlainDrawn.{PlainDrawn}
+use Rattle.capi.specs.Edge.{clockOf, sketchOf, paramsOf, noPlain, plainOutcome, outcomeOf, answerOf, readingOf, valueOf, figureOf, meanOf, highestOf, verdictOf, auditOf, storeLengthOf, plainSave, saveOf, loadAnswerOf, loadOf, depthOf, zoomOf, shutterOf, pixelOf, plainCell, cellOf, drawnOf}
+
+-- CALLS THAT MAY CHANGE THE SKETCH
+changed : (s : PlainSketch) (a : SketchAnswer) (g : List ℕ) (o : SketchOutcome) (r : PlainAnswer) → r ≡ answerOf s a → sketchOutcome a g ≡ o → plainOutcome r g ≡ outcomeOf s o
+changed s a g o r er e = rw er (ap (outcomeOf s) e)
+
+pub fresh-told : (none : PlainSketch) (clock : SubWindowClock) (rows cols t c kind length epoch seed : ℕ) (a : SketchAnswer) (l g : List ℕ) (r : PlainAnswer) → none ≡ noPlain → clock ≡ clockOf kind length epoch epoch
+    → sketchOutcome a l ≡ freshCall rows cols (paramsOf t c) clock seed g → r ≡ answerOf none a → plainOutcome r l ≡ outcomeOf noPlain (freshCall rows cols (paramsOf t c) (clockOf kind length epoch epoch) seed g)
+fresh-told none clock rows cols t c kind length epoch seed a l g r en ec e er = changed noPlain a l (freshCall rows cols (paramsOf t c) (clockOf kind length epoch epoch) seed g) r (er ∙ rw en) (e ∙ rw ec)
+
+module _ (s : PlainSketch) (k : MicroCm) (ek : k ≡ sketchOf s) (a : SketchAnswer) (r : PlainAnswer) (l : List ℕ) (er : r ≡ answerOf s a) where
+  pub update-told : (key g : List ℕ) → sketchOutcome a l ≡ updateCall k key g → plainOutcome r l ≡ outcomeOf s (updateCall (sketchOf s) key g)
+  update-told key g e = changed s a l (updateCall (sketchOf s) key g) r er (e ∙ rw ek)
+
+  pub update-at-told : (key : List ℕ) (time : ℕ) (g : List ℕ) → sketchOutcome a l ≡ updateAtCall k key time g → plainOutcome r l ≡ outcomeOf s (updateAtCall (sketchOf s) key time g)
+  update-at-told key time g e = changed s a l (updateAtCall (sketchOf s) key time g) r er (e ∙ rw ek)
+
+  pub advance-told : (time : ℕ) (g : List ℕ) → sketchOutcome a l ≡ advanceCall k time g → plainOutcome r l ≡ outcomeOf s (advanceCall (sketchOf s) time g)
+  advance-told time g e = changed s a l (advanceCall (sketchOf s) time g) r er (e ∙ rw ek)
+
+  pub merge-told : (s' : PlainSketch) (k' : MicroCm) (g g' : List ℕ) → k' ≡ sketchOf s' → sketchOutcome a l ≡ mergeCall k g k' g' → plainOutcome r l ≡ outcomeOf s (mergeCall (sketchOf s) g (sketchOf s') g')
+  merge-told s' k' g g' ek' e = changed s a l (mergeCall (sketchOf s) g (sketchOf s') g') r er (e ∙ rw (ek, ek'))
+
+-- CALLS THAT READ A SKETCH
+module _ (s : PlainSketch) (k : MicroCm) (ek : k ≡ sketchOf s) where
+  pub read-told : (key g : List ℕ) (a : ReadingAnswer) (r : PlainReading) → a ≡ readCall k key g → r ≡ readingOf a → r ≡ readingOf (readCall (sketchOf s) key g)
+  read-told key g a r e er = er ∙ rw (e, ek)
+
+  pub read-with-told : (key : List ℕ) (fraction : Float) (g : List ℕ) (a : ReadingAnswer) (r : PlainReading) → a ≡ readWithCall k key fraction g → r ≡ readingOf a
+      → r ≡ readingOf (readWithCall (sketchOf s) key fraction g)
+  read-with-told key fraction g a r e er = er ∙ rw (e, ek)
+
+  pub mean-told : (key g : List ℕ) (a : MeanAnswer) (r : PlainNumber) → a ≡ meanCall k key g → r ≡ valueOf (a .verdict) (a .mean) → r ≡ meanOf (meanCall (sketchOf s) key g)
+  mean-told key g a r e er = er ∙ rw (e, ek)
+
+  pub bucket-told : (row col : ℕ) (g : List ℕ) (v : Verdict) (r : PlainVerdict) → v ≡ bucketVerdict k row col g → r ≡ verdictOf v → r ≡ verdictOf (bucketVerdict (sketchOf s) row col g)
+  bucket-told row col g v r e er = er ∙ rw (e, ek)
+
+  pub highest-told : (g : List ℕ) (a : HighestAnswer) (r : PlainNumber) → a ≡ highestCall k g → r ≡ valueOf (a .verdict) (a .zoom) → r ≡ highestOf (highestCall (sketchOf s) g)
+  highest-told g a r e er = er ∙ rw (e, ek)
+
+  pub audit-told : (g : List ℕ) (a : AuditAnswer) (r : PlainAudit) → a ≡ auditCall k g → r ≡ auditOf a → r ≡ auditOf (auditCall (sketchOf s) g)
+  audit-told g a r e er = er ∙ rw (e, ek)
+
+  -- STORES
+  pub length-told : (a : LengthAnswer) (r : PlainNumber) → a ≡ lengthCall k → r ≡ valueOf (a .verdict) (a .length) → r ≡ storeLengthOf (lengthCall (sketchOf s))
+  length-told a r e er = er ∙ rw (e, ek)
+
+  pub save-told : (g store l : List ℕ) (v : Verdict) (r : PlainVerdict) → saveOutcome v l ≡ saveCall k g store → r ≡ verdictOf v → plainSave r l ≡ saveOf (saveCall (sketchOf s) g store)
+  save-told g store l v r e er = let q : saveOutcome v l ≡ saveCall (sketchOf s) g store = e ∙ rw ek in rw er (ap saveOf q)
+
+pub load-told : (g store l : List ℕ) (a : LoadAnswer) (r : PlainAnswer) → loadOutcome a l ≡ loadCall g store → r ≡ loadAnswerOf a → plainOutcome r l ≡ loadOf (loadCall g store)
+load-told g store l a r e er = rw er (ap loadOf e)
+
+-- ONE CELL
+module _ (p : MicroParams) where
+  pub depth-told : (a : LayoutAnswer) (r : PlainNumber) → a ≡ layoutCall p → r ≡ valueOf (a .verdict) (a .layout .depth) → r ≡ depthOf (layoutCall p)
+  depth-told a r e er = er ∙ rw e
+
+  pub check-told : (b : List ℕ) (v : Verdict) (r : PlainVerdict) → v ≡ cellVerdict p b → r ≡ verdictOf v → r ≡ verdictOf (cellVerdict p b)
+  check-told b v r e er = er ∙ rw e
+
+  pub zoom-told : (b : List ℕ) (a : ZoomAnswer) (r : PlainNumber) → a ≡ zoomCall p b → r ≡ valueOf (a .verdict) (a .zoom) → r ≡ zoomOf (zoomCall p b)
+  zoom-told b a r e er = er ∙ rw e
+
+  pub shutter-told : (b : List ℕ) (a : ShutterAnswer) (r : PlainNumber) → a ≡ shutterCall p b → r ≡ valueOf (a .verdict) (a .shutter) → r ≡ shutterOf (shutterCall p b)
+  shutter-told b a r e er = er ∙ rw e
+
+  pub pixel-told : (n : ℕ) (b : List ℕ) (a : PixelAnswer) (r : PlainFigure) → a ≡ pixelCall p n b → r ≡ figureOf (a .verdict) (a .items) → r ≡ pixelOf (pixelCall p n b)
+  pixel-told n b a r e er = er ∙ rw e
+
+pub base-told : (c : ℕ) (a : ZoomAnswer) (r : PlainNumber) → a ≡ maxZoomCall c → r ≡ valueOf (a .verdict) (a .zoom) → r ≡ zoomOf (maxZoomCall c)
+base-told c a r e er = er ∙ rw e
+
+pub cell-told : (l : List ℕ) (o : CellOutcome) (a : CellAnswer) (r : PlainDrawn) → cellOutcome l a ≡ o → r ≡ drawnOf a → plainCell r l ≡ cellOf o
+cell-told l o a r e er = rw er (ap cellOf e)
