@@ -1,0 +1,255 @@
+//! Our calls beside the published Rust's: one process, the same keys, the same clock readings. See docs/BENCHMARK.md.
+
+// The published files say `use smallvec::SmallVec`; this crate answers to that name.
+extern crate self as smallvec;
+
+mod ours;
+mod standins;
+
+// The published files, found through the links that oracle/tree makes.
+#[rustfmt::skip]
+#[allow(dead_code, unused_imports)]
+#[path = "../../target/oracle/tree/sketches"]
+mod sketches {
+    pub mod microscope;
+}
+
+#[rustfmt::skip]
+#[allow(dead_code)]
+#[path = "../../target/oracle/tree/common"]
+mod common {
+    pub use crate::standins::MATRIX_MAX_ROWS;
+    pub mod structures {
+        pub mod matrix_storage;
+        pub mod vector3d;
+    }
+}
+
+pub use common::structures::matrix_storage::MatrixFastHash;
+pub use common::structures::vector3d::Vector3D;
+pub use standins::{Columns as DefaultXxHasher, DataInput, SketchHasher, SmallVec, analytics};
+
+use ours::Ours;
+use sketches::microscope::cell::reach;
+use sketches::microscope::{MicroCm, MicroParams, SubWindowClock};
+use std::hint::black_box;
+use std::time::{Duration, Instant};
+
+type Theirs = MicroCm;
+
+/// splitmix64
+struct Choice(u64);
+
+impl Choice {
+    fn next(&mut self) -> u64 {
+        self.0 = self.0.wrapping_add(0x9e37_79b9_7f4a_7c15);
+        let mut z = self.0;
+        z = (z ^ (z >> 30)).wrapping_mul(0xbf58_476d_1ce4_e5b9);
+        z = (z ^ (z >> 27)).wrapping_mul(0x94d0_49bb_1331_11eb);
+        z ^ (z >> 31)
+    }
+}
+
+#[derive(Clone, Copy)]
+struct Shape {
+    rows: usize,
+    cols: usize,
+    t: usize,
+    c: u32,
+    length: u64,
+}
+
+impl Shape {
+    fn theirs(self, timed: bool) -> Theirs {
+        let clock = if timed {
+            SubWindowClock::time_based(self.length, 0)
+        } else {
+            SubWindowClock::count_based(self.length)
+        };
+        Theirs::with_dimensions(self.rows, self.cols, MicroParams::new(self.t, self.c), clock, 1)
+    }
+
+    fn ours(self, timed: bool) -> Ours {
+        Ours::new(self.rows, self.cols, self.t, self.c, timed as u32, self.length, 1)
+    }
+
+    fn key(self, seed: u64) -> Key {
+        let mut choice = Choice(seed);
+        let bits = self.cols.ilog2();
+        let columns: Vec<u32> = (0..self.rows).map(|_| (choice.next() % self.cols as u64) as u32).collect();
+        let packed = columns.iter().rev().fold(0u128, |packed, &column| (packed << bits) | column as u128);
+        Key { columns, packed: DataInput { packed } }
+    }
+
+    fn keys(self, kind: Keys, count: usize) -> Vec<Key> {
+        let mut choice = Choice(7);
+        (0..count)
+            .map(|_| match kind {
+                Keys::Uniform => self.key(choice.next() % 10_000),
+                // Half of all items are of one key, a quarter of the next, and so on.
+                Keys::Skewed => self.key(choice.next().leading_ones() as u64),
+                Keys::One => self.key(0),
+            })
+            .collect()
+    }
+}
+
+#[derive(Clone, Copy)]
+enum Keys {
+    Uniform,
+    Skewed,
+    One,
+}
+
+struct Key {
+    columns: Vec<u32>,
+    packed: DataInput,
+}
+
+/// The shorter of several timings of each, taken in turns, for one call of `calls`.
+fn timed(calls: u64, mut ours: impl FnMut() -> Duration, theirs: Option<&mut dyn FnMut() -> Duration>) -> (f64, Option<f64>) {
+    let mut best = (f64::INFINITY, f64::INFINITY);
+    let mut theirs = theirs;
+    for _ in 0..7 {
+        best.0 = best.0.min(ours().as_nanos() as f64 / calls as f64);
+        if let Some(theirs) = theirs.as_mut() {
+            best.1 = best.1.min(theirs().as_nanos() as f64 / calls as f64);
+        }
+    }
+    (best.0, theirs.map(|_| best.1))
+}
+
+fn clocked(work: impl FnOnce()) -> Duration {
+    let start = Instant::now();
+    work();
+    start.elapsed()
+}
+
+fn told(what: &str, shape: Shape, (ours, theirs): (f64, Option<f64>), aim: &str) {
+    let place = format!("{} x {}, t {}, c {}", shape.rows, shape.cols, shape.t, shape.c);
+    match theirs {
+        Some(theirs) => println!("| {what} | {place} | {ours:.0} | {theirs:.0} | {:.2} | {aim} |", ours / theirs),
+        None => println!("| {what} | {place} | {ours:.0} | | | {aim} |"),
+    }
+}
+
+/// Both must have come to the same bytes: a benchmark of two different things says nothing.
+fn same(ours: &Ours, theirs: &Theirs) {
+    assert_eq!(ours.grid, theirs.as_storage().as_slice(), "the grids differ");
+    assert_eq!(ours.sketch.state, reach::state(theirs), "the states differ");
+}
+
+fn updates(what: &str, shape: Shape, kind: Keys, calls: usize, aim: &str) {
+    let keys = shape.keys(kind, calls);
+    let (mut ours, mut theirs) = (shape.ours(false), shape.theirs(false));
+    let figures = timed(
+        calls as u64,
+        || clocked(|| keys.iter().for_each(|key| ours.update(&key.columns))),
+        Some(&mut || clocked(|| keys.iter().for_each(|key| theirs.update(&key.packed)))),
+    );
+    same(&ours, &theirs);
+    told(what, shape, figures, aim);
+}
+
+/// A sketch of time, filled so that cells have zoomed.
+fn filled(shape: Shape, items: usize) -> (Ours, Theirs) {
+    let (mut ours, mut theirs) = (shape.ours(true), shape.theirs(true));
+    let mut counting = Shape { length: 1 << 40, ..shape }.ours(false);
+    for key in shape.keys(Keys::Skewed, items).iter().chain(&shape.keys(Keys::Uniform, items)) {
+        counting.update(&key.columns);
+    }
+    ours.grid.copy_from_slice(&counting.grid);
+    ours.sketch.state = counting.sketch.state;
+    reach::set_grid(&mut theirs, &counting.grid);
+    reach::set_state(&mut theirs, counting.sketch.state);
+    (ours, theirs)
+}
+
+fn crossings(what: &str, shape: Shape, aim: &str) {
+    let (ours, theirs) = filled(shape, 200_000);
+    let (mut ours_at, mut theirs_at) = (ours.clone(), theirs.clone());
+    let steps = 2 * shape.t.min(64) as u64;
+    let figures = timed(
+        steps,
+        || {
+            ours_at = ours.clone();
+            clocked(|| (1..=steps).for_each(|step| ours_at.advance_to(step * shape.length)))
+        },
+        Some(&mut || {
+            theirs_at = theirs.clone();
+            clocked(|| (1..=steps).for_each(|step| theirs_at.advance_to(step * shape.length)))
+        }),
+    );
+    same(&ours_at, &theirs_at);
+    told(what, shape, figures, aim);
+}
+
+fn readings(what: &str, shape: Shape, aim: &str) {
+    let (mut ours, mut theirs) = filled(shape, 100_000);
+    let past = 3 * shape.t as u64 * shape.length + shape.length / 3;
+    for time in (1..=3 * shape.t as u64).map(|n| n * shape.length).chain([past]) {
+        ours.advance_to(time);
+        theirs.advance_to(time);
+    }
+    let keys = shape.keys(Keys::Skewed, 1_000);
+    for key in &keys {
+        assert_eq!(ours.estimate(&key.columns).to_bits(), theirs.estimate(&key.packed).to_bits(), "the figures differ");
+    }
+    let figures = timed(
+        keys.len() as u64,
+        || clocked(|| keys.iter().for_each(|key| { black_box(ours.estimate(&key.columns)); })),
+        Some(&mut || clocked(|| keys.iter().for_each(|key| { black_box(theirs.estimate(&key.packed)); }))),
+    );
+    told(what, shape, figures, aim);
+}
+
+fn merges(what: &str, shape: Shape, aim: &str) {
+    let (ours, theirs) = filled(shape, 100_000);
+    let (other, others) = filled(shape, 30_000);
+    let (mut ours_at, mut theirs_at) = (ours.clone(), theirs.clone());
+    let figures = timed(
+        1,
+        || {
+            ours_at = ours.clone();
+            clocked(|| ours_at.merge(&other))
+        },
+        Some(&mut || {
+            theirs_at = theirs.clone();
+            clocked(|| theirs_at.merge(&others).unwrap())
+        }),
+    );
+    same(&ours_at, &theirs_at);
+    told(what, shape, figures, aim);
+}
+
+/// What the Rust doesn't have.
+fn alone(shape: Shape) {
+    let (mut ours, _) = filled(shape, 100_000);
+    let mut store = ours.store();
+    told("audit", shape, timed(1, || clocked(|| assert_eq!(ours.audit(), 0)), None), "below a crossing");
+    told("save", shape, timed(1, || clocked(|| ours.save(&mut store)), None), "");
+    told("load", shape, timed(1, || clocked(|| ours.load(&store)), None), "");
+}
+
+fn main() {
+    println!("| call | grid | ours, ns | the Rust, ns | ratio | aim |");
+    println!("|---|---|---|---|---|---|");
+    let shape = Shape { rows: 4, cols: 1024, t: 12, c: 2, length: 4096 };
+    updates("update, uniform keys", shape, Keys::Uniform, 200_000, "1.0");
+    updates("update, skewed keys", shape, Keys::Skewed, 200_000, "1.0");
+    updates("update, one key", shape, Keys::One, 200_000, "1.0");
+    crossings("crossing", shape, "1.0");
+    readings("reading", shape, "0.5");
+    merges("merge", shape, "0.5");
+    alone(shape);
+    for (rows, cols, t) in [(4, 1024, 1), (4, 16, 4096), (1, 1024, 12), (128, 2, 12), (4, 65536, 12)] {
+        let shape = Shape { rows, cols, t, ..shape };
+        // Fewer items for grids that cross slowly.
+        let calls = if cols == 65536 { 20_000 } else { 100_000 };
+        updates("update, uniform keys", shape, Keys::Uniform, calls, "");
+        crossings("crossing", shape, "");
+        readings("reading", shape, "");
+        merges("merge", shape, "");
+        alone(shape);
+    }
+}

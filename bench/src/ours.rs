@@ -1,0 +1,137 @@
+//! Our calls, as include/microscope.h declares them.
+
+#[repr(C)]
+#[derive(Clone, Copy, Debug)]
+pub struct Sketch {
+    pub rows: usize,
+    pub cols: usize,
+    pub t: usize,
+    pub c: u32,
+    pub kind: u32,
+    pub length: u64,
+    pub epoch: u64,
+    pub reading: u64,
+    pub state: u64,
+}
+
+#[repr(C)]
+pub struct Answer {
+    pub number: u64,
+    pub index: usize,
+    pub draws: u64,
+    pub sketch: Sketch,
+}
+
+#[repr(C)]
+pub struct Reading {
+    pub number: u64,
+    pub index: usize,
+    pub over: f64,
+    pub under: f64,
+    pub linear: f64,
+    pub fraction: f64,
+    pub over_items: u64,
+    pub under_items: u64,
+}
+
+#[repr(C)]
+pub struct Number {
+    pub number: u64,
+    pub index: usize,
+    pub value: u64,
+}
+
+#[repr(C)]
+pub struct Verdict {
+    pub number: u64,
+    pub index: usize,
+}
+
+#[repr(C)]
+pub struct Audit {
+    pub number: u64,
+    pub unsound: u64,
+    pub index: usize,
+}
+
+unsafe extern "C" {
+    fn microscope_new(rows: usize, cols: usize, t: usize, c: u32, kind: u32, length: u64, epoch: u64, seed: u64, grid: *mut u8, size: usize) -> Answer;
+    fn microscope_update(sketch: Sketch, key: *const u32, rows: usize, grid: *mut u8, size: usize) -> Answer;
+    fn microscope_advance_to(sketch: Sketch, timestamp: u64, grid: *mut u8, size: usize) -> Answer;
+    fn microscope_estimate(sketch: Sketch, key: *const u32, rows: usize, grid: *const u8, size: usize) -> Reading;
+    fn microscope_audit(sketch: Sketch, grid: *const u8, size: usize) -> Audit;
+    fn microscope_merge(sketch: Sketch, grid: *mut u8, size: usize, other: Sketch, other_grid: *const u8, other_size: usize) -> Answer;
+    fn microscope_store_length(sketch: Sketch) -> Number;
+    fn microscope_save(store: *mut u8, length: usize, sketch: Sketch, grid: *const u8, size: usize) -> Verdict;
+    fn microscope_load(grid: *mut u8, size: usize, store: *const u8, length: usize) -> Answer;
+}
+
+/// A sketch with its grid. A refused call stops the benchmark: none of its calls is one to refuse.
+#[derive(Clone)]
+pub struct Ours {
+    pub sketch: Sketch,
+    pub grid: Vec<u8>,
+}
+
+fn accepted(number: u64) {
+    assert_eq!(number, 0, "refused");
+}
+
+impl Ours {
+    pub fn new(rows: usize, cols: usize, t: usize, c: u32, kind: u32, length: u64, seed: u64) -> Self {
+        let depth = (t + 7).div_ceil(4) * 4;
+        let mut grid = vec![0; rows * cols * depth];
+        let answer = unsafe { microscope_new(rows, cols, t, c, kind, length, 0, seed, grid.as_mut_ptr(), grid.len()) };
+        accepted(answer.number);
+        Self { sketch: answer.sketch, grid }
+    }
+
+    pub fn update(&mut self, key: &[u32]) {
+        let answer = unsafe { microscope_update(self.sketch, key.as_ptr(), key.len(), self.grid.as_mut_ptr(), self.grid.len()) };
+        accepted(answer.number);
+        self.sketch = answer.sketch;
+    }
+
+    pub fn advance_to(&mut self, timestamp: u64) {
+        let answer = unsafe { microscope_advance_to(self.sketch, timestamp, self.grid.as_mut_ptr(), self.grid.len()) };
+        accepted(answer.number);
+        self.sketch = answer.sketch;
+    }
+
+    pub fn estimate(&self, key: &[u32]) -> f64 {
+        let reading = unsafe { microscope_estimate(self.sketch, key.as_ptr(), key.len(), self.grid.as_ptr(), self.grid.len()) };
+        accepted(reading.number);
+        reading.linear
+    }
+
+    pub fn audit(&self) -> u64 {
+        let audit = unsafe { microscope_audit(self.sketch, self.grid.as_ptr(), self.grid.len()) };
+        accepted(audit.number);
+        audit.unsound
+    }
+
+    pub fn merge(&mut self, other: &Self) {
+        let answer = unsafe {
+            microscope_merge(self.sketch, self.grid.as_mut_ptr(), self.grid.len(), other.sketch, other.grid.as_ptr(), other.grid.len())
+        };
+        accepted(answer.number);
+        self.sketch = answer.sketch;
+    }
+
+    pub fn store(&self) -> Vec<u8> {
+        let length = unsafe { microscope_store_length(self.sketch) };
+        accepted(length.number);
+        vec![0; length.value as usize]
+    }
+
+    pub fn save(&self, store: &mut [u8]) {
+        let verdict = unsafe { microscope_save(store.as_mut_ptr(), store.len(), self.sketch, self.grid.as_ptr(), self.grid.len()) };
+        accepted(verdict.number);
+    }
+
+    pub fn load(&mut self, store: &[u8]) {
+        let answer = unsafe { microscope_load(self.grid.as_mut_ptr(), self.grid.len(), store.as_ptr(), store.len()) };
+        accepted(answer.number);
+        self.sketch = answer.sketch;
+    }
+}
