@@ -6,13 +6,13 @@ use mathlib.Core.Bool.{Bool, true, false, not}
 use mathlib.Core.List.{List, _++_}
 use lib.ListN.{length, take, drop, replicate}
 use lib.Seq.{length-take-le}
-use native.Mathlib.Nat.{mod-lt, one-le-pow}
+use native.Mathlib.Nat.{mod-lt, zero-div, zero-mod, one-le-pow}
 use native.Mathlib.Omega.{arith}
 use borrow.Author.Tests.{le-leb, lt-leb, eq-eqb, ne-eqb, not-true, not-false}
 use Rattle.laws.specs.Steps.{Step, still, leaving, later}
 use Rattle.rounding.specs.declared.Divided.{Divided}
 use Rattle.rounding.specs.Draws.{roundedDiv}
-use Rattle.rounding.proofs.DivisionLaws.{draws-le}
+use Rattle.rounding.proofs.DivisionLaws.{whole-case, draws-le}
 use Rattle.cell.specs.declared.Drawn.{Drawn}
 use Rattle.cell.specs.Cell.{pixelsOf, depthOf, slotOf, pixelsIn, zoomOf, shutterOf, unitOf, withZoom, withShutter}
 use Rattle.cell.specs.Insertion.{creditOf}
@@ -74,6 +74,12 @@ module _ (t c slot : ℕ) (b : List ℕ) (σ s u : ℕ) (es : s ≡ shutterOf t 
   pub unit-positive : 2 ≤ c → 0 < u
   unit-positive h = rw eu (one-le-pow (zoomOf t b) c (omega arith))
 
+  pub close-empty : (b' : List ℕ) → b' ≡ withShutter t 0 b → s ≡ 0 → still b' σ ≡ closeOf t c slot b σ
+  unfolding closeOf
+  close-empty b' eb z =
+      let none : roundedDiv 0 (unitOf t c b) σ ≡ record { value = 0; state = σ; draws = 0 } = sym (whole-case 0 (unitOf t c b) σ (zero-mod (unitOf t c b))) ∙ rw (zero-div (unitOf t c b)) in
+      rw (eb, ← es, z, none) refl
+
   module _ (b' : List ℕ) (d : Divided) (eb : b' ≡ withShutter t 0 b) (ed : d ≡ roundedDiv s u σ) where
     closing : closeOf t c slot b σ ≡ closedWith t c slot b' d
     unfolding closeOf
@@ -82,9 +88,11 @@ module _ (t c slot : ℕ) (b : List ℕ) (σ s u : ℕ) (es : s ≡ shutterOf t 
     pub close-none : d .value ≡ 0 → record { bytes = b'; state = d .state; draws = d .draws } ≡ closeOf t c slot b σ
     close-none h = rw closing (simp (eq-eqb _ _ h))
 
-    pub close-credit : (d .value ≡ 0 → ⊥) → (l : List ℕ) (r : Drawn) → stepOf l r ≡ creditOf t c slot b' (d .state)
+    pub close-credit : (d .value ≡ 0 → ⊥) → (place : ℕ) (l : List ℕ) (r : Drawn) → place ≡ slot → stepOf l r ≡ creditOf t c place b' (d .state)
         → record { bytes = l; state = r .state; draws = d .draws + r .draws } ≡ closeOf t c slot b σ
-    close-credit h l r e = rw closing (simp (ne-eqb _ _ h) (ap (later (d .draws)) e))
+    close-credit h place l r ea e =
+        let q : stepOf l r ≡ creditOf t c slot b' (d .state) = e ∙ rw ea in
+        rw closing (simp (ne-eqb _ _ h) (ap (later (d .draws)) q))
 
 -- the draws of each way out
 pub still-few : (b l : List ℕ) (σ k : ℕ) (r : Drawn) → stepOf l r ≡ still b σ → r .draws ≤ k + 3
@@ -111,12 +119,12 @@ module _ (t c n crossed p : ℕ) (b : List ℕ) (σ : ℕ) (ep : p ≡ pixelsOf 
   pub crossed-known : crossed < p → (crossed < pixelsOf t → crossed ≤ n) → crossed ≤ n
   crossed-known h f = f (omega arith)
 
-  pub inside-near : crossed < p → (slot : ℕ) (l l' : List ℕ) (r : Drawn) → slot ≡ slotOf t (n - crossed) → stepOf l r ≡ closeOf t c slot b σ
+  pub inside-near : crossed < p → (l l' : List ℕ) (r : Drawn) → stepOf l r ≡ closeOf t c (slotOf t (n - crossed)) b σ
       → l' ≡ clearOf t crossed (n - crossed + 1) l → stepOf l' r ≡ insideOf t c n crossed b σ
   unfolding insideOf
-  inside-near h slot l l' r es e el =
+  inside-near h l l' r e el =
       let q : crossed < pixelsOf t = omega arith in
-      simp (lt-leb _ _ q) (rw (el, ← es) (ap (λ (s : Step). leaving s (clearOf t crossed (n - crossed + 1) (s .bytes))) e))
+      simp (lt-leb _ _ q) (rw el (ap (λ (s : Step). leaving s (clearOf t crossed (n - crossed + 1) (s .bytes))) e))
 
 pub slot-in : (t x slot : ℕ) → slot ≡ slotOf t x → slot < pixelsOf t
 slot-in t x slot e =

@@ -17,7 +17,7 @@ ghost use Prim.Native.Nat.{_+_, _-_, _*_, _^_, _<_, _≤_};
 ghost use lib.ListN.{length, replicate};
 ghost use Rattle.laws.specs.Steps.{still};
 ghost use Rattle.refusal.specs.Refusals.{refuse};
-ghost use Rattle.cell.specs.Cell.{pixelsOf, pixelsIn, depthOf, soundOf};
+ghost use Rattle.cell.specs.Cell.{pixelsOf, pixelsIn, depthOf, slotOf, soundOf};
 ghost use Rattle.cell.specs.Crossing.{closeOf, clearOf, emptied, insideOf, ceilingOf, allAtMost, timesEach, zoomedIn, zoomInOf, crossOf};
 ghost use Rattle.cell.specs.Refusals.{cellOutcome, crossCall};
 ghost use Rattle.cell.specs.Workers.{Fit, Judged, stepOf};
@@ -160,26 +160,30 @@ fn enter_unzoomed(
     }
     // What the shutter holds belongs to the sub-window that ends: in the new pixel it would count for a whole window.
     let ended = n - crossed;
-    let drawn = close(cell, t, c, layout::slot(t, ended), shutter, unit, state);
+    let drawn = close(cell, t, c, ended, shutter, unit, state);
     clear(cell, t, ended, crossed);
     drawn
 }
 
-// Closes the shutter into a pixel.
+// Closes the shutter into the pixel of the sub-window that ends.
 fn close(
     cell: &mut [u8],
     t: usize,
     c: u32,
-    slot: usize,
+    ended: u64,
     shutter: u32,
     unit: u64,
     state: u64,
 ) -> Drawn
-    requires { ⌜ Judged t c (now cell) shutter unit × (slot < pixelsOf t) ⌝ }
-    ensures { λ r. ⌜ stepOf (now (cell .exit)) r ≡ closeOf t c slot (now (cell .entry)) state ⌝ }
+    requires { ⌜ Judged t c (now cell) shutter unit ⌝ }
+    ensures { λ r. ⌜ stepOf (now (cell .exit)) r ≡ closeOf t c (slotOf t ended) (now (cell .entry)) state ⌝ }
     ensures { λ r. ⌜ r .draws ≤ t + 3 ⌝ }
 {
     layout::set_shutter(cell, t, 0);
+    // Most cells have nothing to round: they are spared the division.
+    if shutter == 0 {
+        return Drawn { state, draws: 0 };
+    }
     let rounded = rounding::worker::divide(shutter as u64, unit, state);
     if rounded.value == 0 {
         return Drawn {
@@ -187,6 +191,7 @@ fn close(
             draws: rounded.draws,
         };
     }
+    let slot = layout::slot(t, ended);
     let credited = insertion::credit_pixel(cell, t, c, slot, rounded.state);
     Drawn {
         state: credited.state,

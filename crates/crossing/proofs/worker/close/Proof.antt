@@ -1,5 +1,5 @@
--- `close`: the rounded shutter is 0, and nothing is credited, or it is not. Assumes nothing.
-use Rattle.crossing.proofs.CrossingCases.{unit-positive, close-none, close-credit, division-few, credited-few, credited-fits}
+-- `close`: there is nothing to round, or the rounded shutter is 0, and nothing is credited, or it is not. Assumes nothing.
+use Rattle.crossing.proofs.CrossingCases.{unit-positive, close-empty, close-none, close-credit, division-few, credited-few, credited-fits, slot-in}
 use borrow.Author.Needs.{needs}
 use Rattle.crossing.proofs.worker.close.Statement.{statement}
 use Rattle.crossing.proofs.worker.close.Tie as tie
@@ -7,36 +7,48 @@ use Rattle.crossing.proofs.worker.close.Tie as tie
 set-shutter-requires : tie.Need-set-shutter-requires
 set-shutter-requires c κs = search needs
 
-divide-requires : tie.Need-divide-requires
-divide-requires c κs = search (unit-positive, needs)
-
 same-length : tie.Need-same-length
 same-length c = search needs
 
 returns : tie.Need-returns
-returns c = (search (close-none, needs), search (division-few, needs))
+returns c = (search (close-empty, needs), search needs)
 
-credit-pixel-requires : tie.Need-credit-pixel-requires
-credit-pixel-requires c κs = search needs
-
-add-t17 : tie.Need-add-t17
-add-t17 c = record { fits = search (credited-fits, needs) }
+divide-requires : tie.Need-divide-requires
+divide-requires c κs = search (unit-positive, needs)
 
 same-length-2 : tie.Need-same-length-2
 same-length-2 c = search needs
 
 returns-2 : tie.Need-returns-2
-returns-2 c = (search (close-credit, needs), search (credited-few, needs))
+returns-2 c = (search (close-none, needs), search (division-few, needs))
+
+slot-requires : tie.Need-slot-requires
+slot-requires c κs = search needs
+
+credit-pixel-requires : tie.Need-credit-pixel-requires
+credit-pixel-requires c κs = (search needs, search (slot-in, needs))
+
+add-t18 : tie.Need-add-t18
+add-t18 c = record { fits = search (credited-fits, needs) }
+
+same-length-3 : tie.Need-same-length-3
+same-length-3 c = search needs
+
+returns-3 : tie.Need-returns-3
+returns-3 c = (search (close-credit, needs), search (credited-few, needs))
 
 pub close-spec : {M : Type 1} → statement M
 close-spec =
     tie.close
     (tie.spec
     set-shutter-requires
-    divide-requires
     same-length
     returns
-    credit-pixel-requires
-    add-t17
+    divide-requires
     same-length-2
-    returns-2)
+    returns-2
+    slot-requires
+    credit-pixel-requires
+    add-t18
+    same-length-3
+    returns-3)

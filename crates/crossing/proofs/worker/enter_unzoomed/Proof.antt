@@ -1,5 +1,5 @@
 -- `enter_unzoomed`: a far jump, or the closing and the clearing. Assumes nothing.
-use Rattle.crossing.proofs.CrossingCases.{inside-far, still-few, crossed-known, slot-in, inside-near}
+use Rattle.crossing.proofs.CrossingCases.{inside-far, still-few, crossed-known, inside-near}
 use borrow.Author.Needs.{needs}
 use Rattle.crossing.proofs.worker.enter_unzoomed.Statement.{statement}
 use Rattle.crossing.proofs.worker.enter_unzoomed.Tie as tie
@@ -19,11 +19,8 @@ returns c = (search (inside-far, needs), search (still-few, needs))
 sub-ended : tie.Need-sub-ended
 sub-ended c = search (crossed-known, needs)
 
-slot-requires : tie.Need-slot-requires
-slot-requires c κs = search needs
-
 close-requires : tie.Need-close-requires
-close-requires c κs = (search needs, search (slot-in, needs))
+close-requires c κs = search needs
 
 clear-requires : tie.Need-clear-requires
 clear-requires c κs = search needs
@@ -43,7 +40,6 @@ enter-unzoomed-spec =
     same-length
     returns
     sub-ended
-    slot-requires
     close-requires
     clear-requires
     same-length-2
