@@ -52,9 +52,9 @@ fn compare(header: &[u8; 80], given: &[u8], cell: &mut [u8], tally: Tally) -> Ta
     let depth = cell.len();
     let size = given.len();
     let last = std::num::wrapping_sub_usize(size, depth);
-    let before = part(given, 0, depth);
-    let src = part(given, depth, last);
-    let after = part(given, last, size);
+    let before = reader::part(given, 0, depth);
+    let src = reader::part(given, depth, last);
+    let after = reader::part(given, last, size);
     fill(cell, before);
     let call = call::call_of(header);
     let expected = call::expected_of(header);
@@ -70,17 +70,6 @@ fn compare(header: &[u8; 80], given: &[u8], cell: &mut [u8], tally: Tally) -> Ta
         show_cells(before, src, after, cell);
     }
     tally.failed()
-}
-
-// The bytes from `from` to `to`, and none where that is no part.
-fn part(bytes: &[u8], from: usize, to: usize) -> &[u8] {
-    if to < from {
-        return &bytes[0..0];
-    }
-    if bytes.len() < to {
-        return &bytes[0..0];
-    }
-    &bytes[from..to]
 }
 
 fn fill(cell: &mut [u8], from: &[u8]) {

@@ -7,11 +7,11 @@ use clock::MovedAnswer;
 use clock::SubWindowClock;
 
 // A clock's fields; its moment is what it has seen, or its now.
-struct Fields {
-    timed: u64,
-    length: u64,
-    epoch: u64,
-    moment: u64,
+pub struct Fields {
+    pub timed: u64,
+    pub length: u64,
+    pub epoch: u64,
+    pub moment: u64,
 }
 
 struct Call {
@@ -103,7 +103,7 @@ fn perform(call: Call) -> Answer {
     }
 }
 
-fn clock_of(fields: Fields) -> SubWindowClock {
+pub fn clock_of(fields: Fields) -> SubWindowClock {
     if fields.timed == 0 {
         return SubWindowClock::CountBased {
             items_per_sub_window: fields.length,
@@ -127,6 +127,7 @@ fn moved(before: SubWindowClock, answer: MovedAnswer) -> Answer {
 fn read(refused: u64, clock: SubWindowClock, crossed: u64, other: SubWindowClock) -> Answer {
     let n = clock.n();
     let fraction = clock.residual_fraction();
+    let fields = fields_of(clock);
     let n_verdict = n.verdict;
     let fraction_verdict = fraction.verdict;
     let reading = answer::first(
@@ -135,7 +136,7 @@ fn read(refused: u64, clock: SubWindowClock, crossed: u64, other: SubWindowClock
     );
     Answer {
         refused: answer::first(refused, reading),
-        moment: moment_of(clock),
+        moment: fields.moment,
         crossed,
         n: n.n,
         fraction: answer::bits(fraction.fraction),
@@ -143,10 +144,27 @@ fn read(refused: u64, clock: SubWindowClock, crossed: u64, other: SubWindowClock
     }
 }
 
-fn moment_of(clock: SubWindowClock) -> u64 {
+pub fn fields_of(clock: SubWindowClock) -> Fields {
     match clock {
-        SubWindowClock::CountBased { seen, .. } => seen,
-        SubWindowClock::TimeBased { now, .. } => now,
+        SubWindowClock::CountBased {
+            items_per_sub_window,
+            seen,
+        } => Fields {
+            timed: 0,
+            length: items_per_sub_window,
+            epoch: 0,
+            moment: seen,
+        },
+        SubWindowClock::TimeBased {
+            sub_window_len,
+            epoch,
+            now,
+        } => Fields {
+            timed: 1,
+            length: sub_window_len,
+            epoch,
+            moment: now,
+        },
     }
 }
 
@@ -176,7 +194,7 @@ fn show_call(call: Call) {
     }
 }
 
-fn show_clock(fields: Fields) {
+pub fn show_clock(fields: Fields) {
     if fields.timed == 0 {
         report::text(b", count");
     } else {

@@ -6,6 +6,7 @@ mod clocks;
 mod draws;
 mod reader;
 mod report;
+mod sketches;
 mod tally;
 
 use tally::Tally;
@@ -20,18 +21,42 @@ fn main() {
     replay_file(b"draws", File::Draws);
     replay_file(b"cells", File::Cells);
     replay_file(b"clock", File::Clock);
+    replay_sketches(b"sketches");
 }
 
 fn replay_file(name: &[u8], file: File) {
-    let fd = os::open_read(name);
+    let fd = opened(name);
     if fd < 0 {
-        os::fail(name);
         return;
     }
     // Three cells of the largest depth, and one.
     let mut given = [0u8; 12312];
     let mut cell = [0u8; 4104];
     let tally = replay(fd, file, &mut given, &mut cell);
+    close(fd, name, tally);
+}
+
+fn replay_sketches(name: &[u8]) {
+    let fd = opened(name);
+    if fd < 0 {
+        return;
+    }
+    // As large as the format lets the grids of the two slots be.
+    let mut first = [0u8; 524288];
+    let mut second = [0u8; 16416];
+    let tally = sketches::replay(fd, &mut first, &mut second);
+    close(fd, name, tally);
+}
+
+fn opened(name: &[u8]) -> i32 {
+    let fd = os::open_read(name);
+    if fd < 0 {
+        os::fail(name);
+    }
+    fd
+}
+
+fn close(fd: i32, name: &[u8], tally: Tally) {
     libc::close(fd);
     report::text(name);
     report::text(b": ");

@@ -51,7 +51,7 @@ pub fn bytes(name: &[u8], shown: &[u8]) {
     }
 }
 
-fn part(name: &[u8]) {
+pub fn part(name: &[u8]) {
     text(b"\n  ");
     text(name);
     text(b": ");
