@@ -154,6 +154,9 @@ module _ (p : MicroParams) (n : ℕ) (b : List ℕ) (ρ : Rounding) (r : Held) (
     pub insert-judged : Judged (p .t) (p .c) b (r .shutter) (r .unit)
     insert-judged = held .judged (let-pass (r .verdict) ok asked h)
 
+    pub insert-few : p .t ≤ 4096
+    insert-few = insert-judged .fit .t-high
+
     pub insert-done : (l : List ℕ) (d : Drawn) (a : CellAnswer) → stepOf l d ≡ insertOf (p .t) (p .c) n b (ρ .state) → a ≡ doneWith d → cellOutcome l a ≡ insertCall p n b (ρ .state)
     unfolding insertCall
     insert-done l d a e q = call-done (r .verdict) _ (held .verdict-is) ok asked (insertOf (p .t) (p .c) n b (ρ .state)) b ρ a h l d e q

@@ -14,7 +14,7 @@ ghost use mathlib.Core.Bool.{true};
 ghost use Prim.Native.Nat.{_+_, _≤_, _<_};
 ghost use lib.ListN.{length, set};
 ghost use Rattle.rounding.specs.Draws.{roundedDiv};
-ghost use Rattle.cell.specs.Cell.{pixelsOf, soundOf};
+ghost use Rattle.cell.specs.Cell.{pixelsOf, slotOf, soundOf};
 ghost use Rattle.cell.specs.Insertion.{divideEach, creditOf, insertOf};
 ghost use Rattle.cell.specs.Refusals.{cellOutcome, insertCall};
 ghost use Rattle.cell.specs.Workers.{Fit, Judged, HeldOf, stepOf, counted};
@@ -82,17 +82,19 @@ pub fn credit_pixel(cell: &mut [u8], t: usize, c: u32, slot: usize, state: u64) 
     Drawn { state, draws: 0 }
 }
 
-// An item of sub-window n, for a cell whose shutter and unit the caller has read already.
+// An item of sub-window n, for a cell whose shutter and unit the caller has read already. The caller knows the pixel of
+// n too, so that many cells share one division.
 pub fn insert_judged(
     cell: &mut [u8],
     t: usize,
     c: u32,
     n: u64,
+    slot: usize,
     shutter: u32,
     unit: u64,
     state: u64,
 ) -> Drawn
-    requires { ⌜ Judged t c (now cell) shutter unit ⌝ }
+    requires { ⌜ Judged t c (now cell) shutter unit × (slot ≡ slotOf t n) ⌝ }
     ensures { λ r. ⌜ stepOf (now (cell .exit)) r ≡ insertOf t c n (now (cell .entry)) state ⌝ }
     ensures { λ r. ⌜ r .draws ≤ t + 2 ⌝ }
 {
@@ -101,20 +103,19 @@ pub fn insert_judged(
         return Drawn { state, draws: 0 };
     }
     layout::set_shutter(cell, t, 0);
-    let slot = layout::slot(t, n);
     credit_pixel(cell, t, c, slot, state)
 }
 
 // An item of sub-window n.
-pub fn insert(cell: &mut [u8], t: usize, c: u32, n: u64, state: u64) -> Drawn
-    requires { ⌜ Fit t c (length (now cell)) × (soundOf t c (now cell) ≡ true) ⌝ }
+pub fn insert(cell: &mut [u8], t: usize, c: u32, n: u64, slot: usize, state: u64) -> Drawn
+    requires { ⌜ Fit t c (length (now cell)) × (soundOf t c (now cell) ≡ true) × (slot ≡ slotOf t n) ⌝ }
     ensures { λ r. ⌜ stepOf (now (cell .exit)) r ≡ insertOf t c n (now (cell .entry)) state ⌝ }
     ensures { λ r. ⌜ r .draws ≤ t + 2 ⌝ }
 {
     let shutter = layout::shutter(&cell[..], t);
     let zoom = layout::zoom(&cell[..], t);
     let unit = power::unit(c, zoom);
-    insert_judged(cell, t, c, n, shutter, unit, state)
+    insert_judged(cell, t, c, n, slot, shutter, unit, state)
 }
 
 // The same for a cell that was judged, and may have been turned back.
@@ -132,11 +133,13 @@ pub fn insert_held(
     if !verdict.accepted() {
         return answer::turned_back(verdict, rounding);
     }
+    let slot = layout::slot(params.t, n);
     let drawn = insert_judged(
         cell,
         params.t,
         params.c,
         n,
+        slot,
         held.shutter,
         held.unit,
         rounding.state,

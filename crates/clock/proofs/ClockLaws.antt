@@ -74,6 +74,12 @@ quotient-step : (d a : ℕ) → (a + 1) / d ≤ a / d + 1
 quotient-step zero a = simp div-zero (omega arith)
 quotient-step (suc d) a = rw (← add-div-right a (zero-lt-suc d)) (quotient-grows (suc d) (omega arith))
 
+pub no-length-n : (k : SubWindowClock) (length : ℕ) → length ≡ lengthOf k → length ≡ 0 → 0 ≡ nOf k
+unfolding nOf
+no-length-n k length e z =
+    let q : lengthOf k ≡ 0 = sym e ∙ z in
+    rw q (sym (div-zero (passedOf k)))
+
 pub start-n : (k : SubWindowClock) → nOf (startOf k) ≡ 0
 unfolding nOf
 start-n (CountBased l s) = zero-div l

@@ -60,12 +60,15 @@ fn passed(clock: SubWindowClock) -> u64
     }
 }
 
+// Needs no judge, so that a call works it out once, before it judges: a length of 0, which is refused, gives 0.
 pub fn sub_window(clock: SubWindowClock) -> u64
-    requires { ⌜ GoodLength clock ⌝ }
     ensures { λ r. ⌜ r ≡ nOf clock ⌝ }
 {
     let since = passed(clock);
     let length = length(clock);
+    if length == 0 {
+        return 0;
+    }
     since / length
 }
 

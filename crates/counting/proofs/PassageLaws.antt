@@ -1,6 +1,6 @@
 -- A recording and a move, as the code makes them: where n stays nothing crosses, and then the pass over the grid leaves it as it was. Assumes nothing.
 use Prim.Native.Nat.{ℕ, zero, suc, _-_, _*_, _^_, _≤_}
-use mathlib.Core.Path.{_≡_, refl, sym, _∙_}
+use mathlib.Core.Path.{_≡_, refl, sym, ap, _∙_}
 use mathlib.Core.List.{List}
 use native.Mathlib.Omega.{arith}
 use lib.ListN.{take-append-drop}
@@ -13,7 +13,8 @@ use Rattle.clock.specs.declared.SubWindowClock.{SubWindowClock}
 use Rattle.clock.specs.Clock.{GoodLength, nOf}
 use Rattle.microscope.specs.declared.MicroCm.{MicroCm}
 use Rattle.microscope.specs.declared.Passed.{Passed}
-use Rattle.microscope.specs.Sketch.{cellsOf, keyCells, allCells, crossEach, insertEach, recorded, moved}
+use Rattle.microscope.specs.Sketch.{cellsOf, keyCells, allCells, crossEach, insertEach, World, recorded, moved}
+use Rattle.microscope.specs.Refusals.{world}
 use Rattle.microscope.specs.Workers.{Ready, Judged, passOf}
 use Rattle.microscope.proofs.AddressLaws.{cells-few}
 use Rattle.counting.specs.declared.Passage.{Passage}
@@ -60,3 +61,13 @@ module _ (p : Passage) (clock : SubWindowClock) (g : List ℕ) (w : Movable (p .
 
 pub cross-few : (k : MicroCm) (size : ℕ) → Ready k size → (d : ℕ) → d ≤ cellsOf k * 4099 → d ≤ 2 ^ 36
 cross-few k size r d h = omega (arith, cells-few k size r)
+
+-- THE PRESENT SUB-WINDOW after a recording and after a move
+module _ (k : MicroCm) (g l : List ℕ) (p : Passage) (n : ℕ) where
+  pub recorded-n : (key : List ℕ) → worldOf p l ≡ recorded key (world k g) → n ≡ nOf (k .clock) → n ≡ nOf (p .sketch .clock)
+  unfolding recorded
+  recorded-n key e en = en ∙ ap (λ (w : World). nOf (w .sketch .clock)) (sym e)
+
+  pub moved-n : (clock : SubWindowClock) → worldOf p l ≡ moved clock (world k g) → n ≡ nOf clock → n ≡ nOf (p .sketch .clock)
+  unfolding moved
+  moved-n clock e en = en ∙ ap (λ (w : World). nOf (w .sketch .clock)) (sym e)

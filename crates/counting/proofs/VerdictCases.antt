@@ -30,6 +30,10 @@ keyed k key g rest = refuseSketch k g (refuseKey k key rest)
 pub keyed-gate : (k : MicroCm) (key g : List ℕ) → Gate (keyed k key g)
 keyed-gate k key g = gate-chain (refuseSketch k g) (refuseKey k key) (sketch-gate k g) (refuse-then 7 (not (keyFits k key)))
 
+-- n rises where the two sub-windows differ
+pub crosses-told : (k : MicroCm) (after : SubWindowClock) (old new : ℕ) → old ≡ nOf (k .clock) → new ≡ nOf after → not (eqb new old) ≡ not (eqb (nOf after) (nOf (k .clock)))
+crosses-told k after old new eo en = rw (eo, en) refl
+
 -- CELLS: these where n stays, and every one where it rises
 module _ (k : MicroCm) (g : List ℕ) (after : SubWindowClock) (rises : Bool) (er : rises ≡ not (eqb (nOf after) (nOf (k .clock)))) (cells : List ℕ) where
   cells-all : rises ≡ true → refuseUnsound k g (judgedCells k after cells) Accepted ≡ refuseUnsound k g (allCells k) Accepted

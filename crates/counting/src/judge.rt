@@ -6,17 +6,8 @@ use refusal::Verdict;
 ghost use mathlib.Core.Path.{_≡_};
 ghost use mathlib.Core.Bool.{not};
 ghost use lib.Dec.{eqb};
-ghost use Rattle.clock.specs.Clock.{GoodLength, lengthOf, nOf};
+ghost use Rattle.clock.specs.Clock.{nOf};
 ghost use Rattle.counting.specs.Workers.{itemVerdict, moveVerdict};
-
-fn crosses(before: SubWindowClock, after: SubWindowClock) -> bool
-    requires { ⌜ GoodLength before × (lengthOf after ≡ lengthOf before) ⌝ }
-    ensures { λ r. ⌜ r ≡ not (eqb (nOf after) (nOf before)) ⌝ }
-{
-    let old = clock::worker::sub_window(before);
-    let new = clock::worker::sub_window(after);
-    new != old
-}
 
 // An item for a sketch that takes the clock `after` by it; `wrong` if the call is for the other kind of clock.
 pub fn item(
@@ -24,9 +15,10 @@ pub fn item(
     key: &[u32],
     grid: &[u8],
     after: SubWindowClock,
+    crosses: bool,
     wrong: bool,
 ) -> Verdict
-    requires { ⌜ lengthOf after ≡ lengthOf (sketch .clock) ⌝ }
+    requires { ⌜ crosses ≡ not (eqb (nOf after) (nOf (sketch .clock))) ⌝ }
     ensures { λ r. ⌜ r ≡ itemVerdict sketch (now (key .entry)) (now (grid .entry)) after wrong ⌝ }
 {
     let keyed = microscope::judge::keyed(sketch, key, grid);
@@ -36,16 +28,21 @@ pub fn item(
     if wrong {
         return Verdict::Refused(8);
     }
-    let clock = sketch.clock;
-    if crosses(clock, after) {
+    if crosses {
         return microscope::judge::all_cells(sketch, grid);
     }
     microscope::judge::key_cells(sketch, key, grid)
 }
 
 // No item: nothing is written within the sub-window.
-pub fn movement(sketch: MicroCm, grid: &[u8], after: SubWindowClock, wrong: bool) -> Verdict
-    requires { ⌜ lengthOf after ≡ lengthOf (sketch .clock) ⌝ }
+pub fn movement(
+    sketch: MicroCm,
+    grid: &[u8],
+    after: SubWindowClock,
+    crosses: bool,
+    wrong: bool,
+) -> Verdict
+    requires { ⌜ crosses ≡ not (eqb (nOf after) (nOf (sketch .clock))) ⌝ }
     ensures { λ r. ⌜ r ≡ moveVerdict sketch (now (grid .entry)) after wrong ⌝ }
 {
     let verdict = microscope::judge::sketch(sketch, grid);
@@ -55,8 +52,7 @@ pub fn movement(sketch: MicroCm, grid: &[u8], after: SubWindowClock, wrong: bool
     if wrong {
         return Verdict::Refused(8);
     }
-    let clock = sketch.clock;
-    if !crosses(clock, after) {
+    if !crosses {
         return verdict;
     }
     microscope::judge::all_cells(sketch, grid)

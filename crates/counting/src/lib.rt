@@ -35,11 +35,23 @@ pub fn update(sketch: MicroCm, key: &[u32], grid: &mut [u8]) -> SketchAnswer
 {
     let clock = sketch.clock;
     let after = clock::worker::ticked(clock);
-    let verdict = judge::item(sketch, key, grid, after, !clock::worker::is_count(clock));
+    let old = clock::worker::sub_window(clock);
+    let new = clock::worker::sub_window(after);
+    let verdict = judge::item(
+        sketch,
+        key,
+        grid,
+        after,
+        new != old,
+        !clock::worker::is_count(clock),
+    );
     if !verdict.accepted() {
         return answer(verdict, Passage { sketch, draws: 0 });
     }
-    answer(verdict, worker::record_and_move(sketch, key, after, grid))
+    answer(
+        verdict,
+        worker::record_and_move(sketch, key, after, old, new, grid),
+    )
 }
 
 // One item on a clock of time. It is counted in the sub-window of its own time: the clock is moved before it.
@@ -48,11 +60,23 @@ pub fn update_at(sketch: MicroCm, key: &[u32], timestamp: u64, grid: &mut [u8]) 
 {
     let clock = sketch.clock;
     let after = clock::worker::advanced(clock, timestamp);
-    let verdict = judge::item(sketch, key, grid, after, clock::worker::is_count(clock));
+    let old = clock::worker::sub_window(clock);
+    let new = clock::worker::sub_window(after);
+    let verdict = judge::item(
+        sketch,
+        key,
+        grid,
+        after,
+        new != old,
+        clock::worker::is_count(clock),
+    );
     if !verdict.accepted() {
         return answer(verdict, Passage { sketch, draws: 0 });
     }
-    answer(verdict, worker::move_and_record(sketch, key, after, grid))
+    answer(
+        verdict,
+        worker::move_and_record(sketch, key, after, old, new, grid),
+    )
 }
 
 // Time passes without an item.
@@ -62,9 +86,17 @@ pub fn advance_to(sketch: MicroCm, timestamp: u64, grid: &mut [u8]) -> SketchAns
     let clock = sketch.clock;
     let start = Passage { sketch, draws: 0 };
     let after = clock::worker::advanced(clock, timestamp);
-    let verdict = judge::movement(sketch, grid, after, clock::worker::is_count(clock));
+    let old = clock::worker::sub_window(clock);
+    let new = clock::worker::sub_window(after);
+    let verdict = judge::movement(
+        sketch,
+        grid,
+        after,
+        new != old,
+        clock::worker::is_count(clock),
+    );
     if !verdict.accepted() {
         return answer(verdict, start);
     }
-    answer(verdict, worker::move_to(start, after, grid))
+    answer(verdict, worker::move_to(start, after, old, new, grid))
 }

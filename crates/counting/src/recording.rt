@@ -9,14 +9,21 @@ ghost use mathlib.Core.Bool.{true};
 ghost use Prim.Native.Nat.{_+_, _*_, _≤_, _<_};
 ghost use lib.ListN.{length};
 ghost use Rattle.laws.specs.Passes.{eachOf};
-ghost use Rattle.cell.specs.Cell.{depthOf, soundOf};
+ghost use Rattle.cell.specs.Cell.{depthOf, slotOf, soundOf};
 ghost use Rattle.cell.specs.Workers.{stepOf};
 ghost use Rattle.microscope.specs.Sketch.{cellsOf, cellOf, keyCells, allCells, insertAt, insertEach, crossEach};
 ghost use Rattle.microscope.specs.Workers.{Ready, Judged, Readable, SoundCells, passOf};
 ghost use Rattle.counting.specs.Workers.{crossPiece};
 
-fn insert_at(sketch: MicroCm, grid: &mut [u8], index: usize, n: u64, state: u64) -> Drawn
-    requires { ⌜ Ready sketch (length (now grid)) × (index < cellsOf sketch) ⌝ }
+fn insert_at(
+    sketch: MicroCm,
+    grid: &mut [u8],
+    index: usize,
+    n: u64,
+    slot: usize,
+    state: u64,
+) -> Drawn
+    requires { ⌜ Ready sketch (length (now grid)) × (index < cellsOf sketch) × (slot ≡ slotOf (sketch .params .t) n) ⌝ }
     requires { ⌜ soundOf (sketch .params .t) (sketch .params .c) (cellOf sketch (now grid) index) ≡ true ⌝ }
     ensures { λ r. ⌜ stepOf (now (grid .exit)) r ≡ insertAt sketch n index (now (grid .entry)) state ⌝ }
     ensures { λ r. ⌜ r .draws ≤ 4098 ⌝ }
@@ -25,7 +32,7 @@ fn insert_at(sketch: MicroCm, grid: &mut [u8], index: usize, n: u64, state: u64)
     let t = params.t;
     let start = grid::start_of(sketch, grid.len(), index);
     let end = start + cell::layout::depth(t);
-    cell::insertion::insert(&mut grid[start..end], t, params.c, n, state)
+    cell::insertion::insert(&mut grid[start..end], t, params.c, n, slot, state)
 }
 
 // The key's cell of each row, in order.
@@ -34,11 +41,20 @@ pub fn insert_each(sketch: MicroCm, key: &[u32], grid: &mut [u8], n: u64, state:
     ensures { λ r. ⌜ passOf (now (grid .exit)) r ≡ insertEach sketch n (keyCells sketch 0 (now (key .entry))) (now (grid .entry)) state ⌝ }
     ensures { λ r. ⌜ r .draws ≤ 128 * 4098 ⌝ }
 {
+    let params = sketch.params;
+    let slot = cell::layout::slot(params.t, n);
     let mut after = state;
     let mut draws: u64 = 0;
     let mut row: usize = 0;
     while row < key.len() {
-        let drawn = insert_at(sketch, grid, grid::key_cell(sketch, key, row), n, after);
+        let drawn = insert_at(
+            sketch,
+            grid,
+            grid::key_cell(sketch, key, row),
+            n,
+            slot,
+            after,
+        );
         after = drawn.state;
         draws = draws + drawn.draws as u64;
         row += 1;
@@ -64,6 +80,7 @@ fn cross_cells(
     ensures { λ r. ⌜ r .draws ≤ count * 4099 ⌝ }
 {
     let depth = cell::layout::depth(t);
+    let slot = cell::layout::slot(t, n - crossed);
     let mut after = state;
     let mut draws: u64 = 0;
     let mut start: usize = 0;
@@ -76,6 +93,7 @@ fn cross_cells(
             c,
             n,
             crossed,
+            slot,
             after,
         );
         after = drawn.state;

@@ -8,6 +8,7 @@ use microscope::Passed;
 use rounding::Rounding;
 ghost use mathlib.Core.Path.{_≡_};
 ghost use Prim.Native.Nat.{_+_, _^_, _≤_};
+ghost use Rattle.clock.specs.Clock.{nOf};
 ghost use Rattle.microscope.specs.Sketch.{recorded, moved};
 ghost use Rattle.microscope.specs.Refusals.{world};
 ghost use Rattle.microscope.specs.Workers.{Readable};
@@ -36,31 +37,34 @@ fn went_on(before: Passage, clock: SubWindowClock, passed: Passed) -> Passage
 }
 
 // An item into the key's cell of each row, counted in the present sub-window.
-fn record_item(before: Passage, key: &[u32], grid: &mut [u8]) -> Passage
-    requires { ⌜ Readable (before .sketch) (now key) (now grid) × (before .draws ≤ 2 ^ 40) ⌝ }
+fn record_item(before: Passage, key: &[u32], n: u64, grid: &mut [u8]) -> Passage
+    requires { ⌜ Readable (before .sketch) (now key) (now grid) × (before .draws ≤ 2 ^ 40) × (n ≡ nOf (before .sketch .clock)) ⌝ }
     ensures { λ r. ⌜ worldOf r (now (grid .exit)) ≡ recorded (now (key .entry)) (worldOf before (now (grid .entry))) ⌝ }
     ensures { λ r. ⌜ r .draws ≤ before .draws + 2 ^ 36 ⌝ }
 {
     let sketch = before.sketch;
     let clock = sketch.clock;
     let rounding = sketch.rounding;
-    let n = clock::worker::sub_window(clock);
     let inserted = recording::insert_each(sketch, key, grid, n, rounding.state);
     went_on(before, clock, inserted)
 }
 
 // Within its sub-window the sketch takes the clock alone: no cell is looked at.
-pub fn move_to(before: Passage, clock: SubWindowClock, grid: &mut [u8]) -> Passage
+pub fn move_to(
+    before: Passage,
+    clock: SubWindowClock,
+    old: u64,
+    new: u64,
+    grid: &mut [u8],
+) -> Passage
     requires { ⌜ Movable (before .sketch) clock (now grid) × (before .draws ≤ 2 ^ 40) ⌝ }
+    requires { ⌜ (old ≡ nOf (before .sketch .clock)) × (new ≡ nOf clock) ⌝ }
     ensures { λ r. ⌜ worldOf r (now (grid .exit)) ≡ moved clock (worldOf before (now (grid .entry))) ⌝ }
     ensures { λ r. ⌜ r .draws ≤ before .draws + 2 ^ 36 ⌝ }
 {
     let sketch = before.sketch;
-    let earlier = sketch.clock;
     let rounding = sketch.rounding;
     let state = rounding.state;
-    let old = clock::worker::sub_window(earlier);
-    let new = clock::worker::sub_window(clock);
     if new == old {
         return went_on(before, clock, Passed { state, draws: 0 });
     }
@@ -74,13 +78,15 @@ pub fn record_and_move(
     sketch: MicroCm,
     key: &[u32],
     after: SubWindowClock,
+    old: u64,
+    new: u64,
     grid: &mut [u8],
 ) -> Passage
-    requires { ⌜ JudgedItem sketch (now key) (now grid) after ⌝ }
+    requires { ⌜ JudgedItem sketch (now key) (now grid) after × (old ≡ nOf (sketch .clock)) × (new ≡ nOf after) ⌝ }
     ensures { λ r. ⌜ worldOf r (now (grid .exit)) ≡ moved after (recorded (now (key .entry)) (world sketch (now (grid .entry)))) ⌝ }
 {
-    let recorded = record_item(Passage { sketch, draws: 0 }, key, grid);
-    move_to(recorded, after, grid)
+    let recorded = record_item(Passage { sketch, draws: 0 }, key, old, grid);
+    move_to(recorded, after, old, new, grid)
 }
 
 // `update_at`: the item belongs to the sub-window of its own time.
@@ -88,11 +94,13 @@ pub fn move_and_record(
     sketch: MicroCm,
     key: &[u32],
     after: SubWindowClock,
+    old: u64,
+    new: u64,
     grid: &mut [u8],
 ) -> Passage
-    requires { ⌜ JudgedItem sketch (now key) (now grid) after ⌝ }
+    requires { ⌜ JudgedItem sketch (now key) (now grid) after × (old ≡ nOf (sketch .clock)) × (new ≡ nOf after) ⌝ }
     ensures { λ r. ⌜ worldOf r (now (grid .exit)) ≡ recorded (now (key .entry)) (moved after (world sketch (now (grid .entry)))) ⌝ }
 {
-    let moved = move_to(Passage { sketch, draws: 0 }, after, grid);
-    record_item(moved, key, grid)
+    let moved = move_to(Passage { sketch, draws: 0 }, after, old, new, grid);
+    record_item(moved, key, new, grid)
 }

@@ -88,11 +88,9 @@ module _ (t c slot : ℕ) (b : List ℕ) (σ s u : ℕ) (es : s ≡ shutterOf t 
     pub close-none : d .value ≡ 0 → record { bytes = b'; state = d .state; draws = d .draws } ≡ closeOf t c slot b σ
     close-none h = rw closing (simp (eq-eqb _ _ h))
 
-    pub close-credit : (d .value ≡ 0 → ⊥) → (place : ℕ) (l : List ℕ) (r : Drawn) → place ≡ slot → stepOf l r ≡ creditOf t c place b' (d .state)
+    pub close-credit : (d .value ≡ 0 → ⊥) → (l : List ℕ) (r : Drawn) → stepOf l r ≡ creditOf t c slot b' (d .state)
         → record { bytes = l; state = r .state; draws = d .draws + r .draws } ≡ closeOf t c slot b σ
-    close-credit h place l r ea e =
-        let q : stepOf l r ≡ creditOf t c slot b' (d .state) = e ∙ rw ea in
-        rw closing (simp (ne-eqb _ _ h) (ap (later (d .draws)) q))
+    close-credit h l r e = rw closing (simp (ne-eqb _ _ h) (ap (later (d .draws)) e))
 
 -- the draws of each way out
 pub still-few : (b l : List ℕ) (σ k : ℕ) (r : Drawn) → stepOf l r ≡ still b σ → r .draws ≤ k + 3
@@ -108,6 +106,22 @@ module _ (v u σ t k : ℕ) (d : Divided) (e : d ≡ roundedDiv v u σ) (h : k �
   pub credited-fits : t ≤ 4096 → d .draws + k < 2 ^ 32
   credited-fits r = omega (arith, credited-few)
 
+pub slot-in : (t x slot : ℕ) → slot ≡ slotOf t x → slot < pixelsOf t
+slot-in t x slot e =
+    let positive : 0 < pixelsOf t = omega arith in
+    rw e (mod-lt x positive)
+
+-- the pixel of the sub-window that ends
+module _ (t n crossed slot : ℕ) where
+  pub ended-found : (crossed < pixelsOf t → crossed ≤ n) → (crossed ≤ n → slot ≡ slotOf t (n - crossed)) → crossed < pixelsOf t → slot ≡ slotOf t (n - crossed)
+  ended-found begins is h = is (begins h)
+
+pub near-begun : (t n crossed p : ℕ) → p ≡ pixelsOf t → crossed < p → (crossed < pixelsOf t → crossed ≤ n) → crossed ≤ n
+near-begun t n crossed p ep h begins = begins (omega arith)
+
+pub near-slot : (t n crossed slot p : ℕ) → p ≡ pixelsOf t → crossed < p → (crossed < pixelsOf t → slot ≡ slotOf t (n - crossed)) → slot ≡ slotOf t (n - crossed)
+near-slot t n crossed slot p ep h is = is (omega arith)
+
 -- UP TO THE ZOOMING IN
 module _ (t c n crossed p : ℕ) (b : List ℕ) (σ : ℕ) (ep : p ≡ pixelsOf t) where
   pub inside-far : p ≤ crossed → (l : List ℕ) (r : Drawn) → stepOf l r ≡ still (emptied t b) σ → stepOf l r ≡ insideOf t c n crossed b σ
@@ -116,20 +130,12 @@ module _ (t c n crossed p : ℕ) (b : List ℕ) (σ : ℕ) (ep : p ≡ pixelsOf 
       let q : pixelsOf t ≤ crossed = omega arith in
       e ∙ sym (simp (le-leb _ _ q))
 
-  pub crossed-known : crossed < p → (crossed < pixelsOf t → crossed ≤ n) → crossed ≤ n
-  crossed-known h f = f (omega arith)
-
-  pub inside-near : crossed < p → (l l' : List ℕ) (r : Drawn) → stepOf l r ≡ closeOf t c (slotOf t (n - crossed)) b σ
+  pub inside-near : crossed < p → (slot : ℕ) (l l' : List ℕ) (r : Drawn) → (crossed < pixelsOf t → slot ≡ slotOf t (n - crossed)) → stepOf l r ≡ closeOf t c slot b σ
       → l' ≡ clearOf t crossed (n - crossed + 1) l → stepOf l' r ≡ insideOf t c n crossed b σ
   unfolding insideOf
-  inside-near h l l' r e el =
+  inside-near h slot l l' r known e el =
       let q : crossed < pixelsOf t = omega arith in
-      simp (lt-leb _ _ q) (rw el (ap (λ (s : Step). leaving s (clearOf t crossed (n - crossed + 1) (s .bytes))) e))
-
-pub slot-in : (t x slot : ℕ) → slot ≡ slotOf t x → slot < pixelsOf t
-slot-in t x slot e =
-    let positive : 0 < pixelsOf t = omega arith in
-    rw e (mod-lt x positive)
+      simp (lt-leb _ _ q) (rw (el, ← known q) (ap (λ (s : Step). leaving s (clearOf t crossed (n - crossed + 1) (s .bytes))) e))
 
 -- THE CROSSING
 module _ (t c n crossed : ℕ) (b : List ℕ) (σ : ℕ) where

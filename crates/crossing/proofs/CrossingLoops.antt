@@ -1,12 +1,12 @@
 -- The loops of a crossing: each says that the definition of all at entry is that of the rest from here, so that a turn
 -- is one clause of it. Assumes nothing.
-use Prim.Native.Nat.{ℕ, suc, _+_, _-_, _*_, _^_, _≤_, _<_}
-use mathlib.Core.Path.{_≡_, refl, sym, _∙_}
+use Prim.Native.Nat.{ℕ, suc, _+_, _-_, _*_, _%_, _^_, _≤_, _<_}
+use mathlib.Core.Path.{_≡_, refl, sym, ap, _∙_}
 use mathlib.Core.Bool.{true}
 use mathlib.Core.List.{List, _++_, append-assoc, append-nil}
 use lib.ListN.{length, take, drop, getD, set, length-set, drop-of-length-le}
 use lib.Seq.{drop-cons, take-suc-set, drop-set-lt, take-all}
-use native.Mathlib.Nat.{mod-lt}
+use native.Mathlib.Nat.{mod-lt, mod-self, mod-eq-of-lt, mod-add-mod}
 use native.Mathlib.Numerals.{add-one}
 use native.Mathlib.Omega.{arith}
 use Rattle.cell.specs.Cell.{pixelsOf, slotOf}
@@ -50,30 +50,61 @@ module _ (c : ℕ) (l₀ : List ℕ) where
           same = length-set l i (x * c) ∙ w .same;
         }
 
--- CLEAR: `left` sub-windows after `window` are to be cleared yet
-pub record Clearing (t : ℕ) (b₀ : List ℕ) (ended count : ℕ) (b : List ℕ) (window left : ℕ) : Type 0 where
-  pub done : clearOf t count (ended + 1) b₀ ≡ clearOf t left (window + 1) b
+-- THE RING: the pixel behind another is that of the next sub-window
+module _ (t slot p : ℕ) (ep : p ≡ pixelsOf t) where
+  pub next-on : slot + 1 < p → slot + 1 ≡ (slot + 1) % pixelsOf t
+  next-on h = sym (mod-eq-of-lt (rw ep at h))
+
+  pub next-round : slot < pixelsOf t → p ≤ slot + 1 → 0 ≡ (slot + 1) % pixelsOf t
+  next-round h l =
+      let e : slot + 1 ≡ pixelsOf t = omega arith in
+      rw e (sym (mod-self (pixelsOf t)))
+
+next-slot-is : (t x slot next : ℕ) → slot ≡ slotOf t x → next ≡ (slot + 1) % pixelsOf t → next ≡ slotOf t (x + 1)
+next-slot-is t x slot next e en = en ∙ rw e (mod-add-mod x (pixelsOf t) 1)
+
+-- CLEAR: `left` sub-windows are to be cleared yet, and the pixel of the last one that was is known
+pub record Clearing (t : ℕ) (b₀ : List ℕ) (ended count : ℕ) (b : List ℕ) (slot left : ℕ) : Type 0 where
+  pub done : clearOf t count (ended + 1) b₀ ≡ clearOf t left (ended + (count - left) + 1) b
   pub same : length b ≡ length b₀
-  pub passed : window + left ≡ ended + count
+  pub most : left ≤ count
+  pub place : slot ≡ slotOf t (ended + (count - left))
+
+clear-more : (t k first : ℕ) (b : List ℕ) → clearOf t (suc k) first b ≡ clearOf t k (first + 1) (set b (slotOf t first) 0)
+unfolding clearOf
+clear-more t k first b = refl
 
 module _ (t : ℕ) (b₀ : List ℕ) (ended count : ℕ) where
-  pub clearing-begin : Clearing t b₀ ended count b₀ ended count
-  clearing-begin = record { done = refl; same = refl; passed = refl }
+  pub clearing-begin : (slot : ℕ) → slot ≡ slotOf t ended → Clearing t b₀ ended count b₀ slot count
+  clearing-begin slot e =
+      let q : ended + (count - count) ≡ ended = omega arith in
+      record { done = rw q refl; same = refl; most = omega arith; place = rw q e }
 
-  module _ (b : List ℕ) (window left : ℕ) (w : Clearing t b₀ ended count b window left) where
+  module _ (b : List ℕ) (slot left : ℕ) (w : Clearing t b₀ ended count b slot left) where
     pub clearing-end : left ≤ 0 → b ≡ clearOf t count (ended + 1) b₀
     unfolding clearOf
     clearing-end h =
         let e : left ≡ 0 = omega arith in
         sym (w .done ∙ rw e refl)
 
-    pub clearing-in : (slot x : ℕ) → slot ≡ slotOf t x → pixelsOf t ≤ length b₀ → slot < length b
-    clearing-in slot x e room =
+    pub clearing-low : slot < pixelsOf t
+    clearing-low =
         let positive : 0 < pixelsOf t = omega arith in
-        rw e (omega (arith, mod-lt x positive, w .same))
+        rw (w .place) (mod-lt (ended + (count - left)) positive)
 
-    pub clearing-on : (slot k : ℕ) → slot ≡ slotOf t (window + 1) → k < left → Clearing t b₀ ended count (set b slot 0) (window + 1) (left - 1)
-    unfolding clearOf
-    clearing-on slot k e h =
-        let s : left ≡ suc (left - 1) = omega arith in
-        record { done = (rw s at (w .done)) ∙ rw e refl; same = length-set b slot 0 ∙ w .same; passed = omega (arith, w .passed) }
+    module _ (next : ℕ) (en : next ≡ (slot + 1) % pixelsOf t) where
+      pub clearing-in : pixelsOf t ≤ length b₀ → next < pixelsOf t → next < length b
+      clearing-in room h = omega (arith, w .same)
+
+      pub clearing-on : (k : ℕ) → k < left → Clearing t b₀ ended count (set b next 0) next (left - 1)
+      clearing-on k h =
+          let s : left ≡ suc (left - 1) = omega arith in
+          let x : ended + (count - (left - 1)) ≡ ended + (count - left) + 1 = omega (arith, w .most) in
+          let q : next ≡ slotOf t (ended + (count - left) + 1) = next-slot-is t (ended + (count - left)) slot next (w .place) en in
+          let more = ap (λ (m : ℕ). clearOf t m (ended + (count - left) + 1) b) s ∙ clear-more t (left - 1) (ended + (count - left) + 1) b in
+          record {
+            done = w .done ∙ more ∙ rw (x, q) refl;
+            same = length-set b next 0 ∙ w .same;
+            most = omega (arith, w .most);
+            place = rw x q;
+          }

@@ -13,7 +13,7 @@ use rounding::Rounding;
 ghost use mathlib.Core.Path.{_≡_};
 ghost use mathlib.Core.Bool.{true, _&&_};
 ghost use lib.Dec.{ltb};
-ghost use Prim.Native.Nat.{_+_, _-_, _*_, _^_, _<_, _≤_};
+ghost use Prim.Native.Nat.{_+_, _-_, _*_, _%_, _^_, _<_, _≤_};
 ghost use lib.ListN.{length, replicate};
 ghost use Rattle.laws.specs.Steps.{still};
 ghost use Rattle.refusal.specs.Refusals.{refuse};
@@ -98,23 +98,36 @@ pub fn enter_held(
     answer::done(drawn)
 }
 
-// The same for a cell that the caller knows to be sound.
+// The same for a cell that the caller knows to be sound. The caller knows the pixel of the sub-window that ends, too, so
+// that many cells share one division.
 pub fn enter_sub_window(
     cell: &mut [u8],
     t: usize,
     c: u32,
     n: u64,
     crossed: u64,
+    slot: usize,
     state: u64,
 ) -> Drawn
-    requires { ⌜ Fit t c (length (now cell)) × (soundOf t c (now cell) ≡ true) × (crossed < pixelsOf t → crossed ≤ n) ⌝ }
+    requires { ⌜ Fit t c (length (now cell)) × (soundOf t c (now cell) ≡ true) × (crossed ≤ n) × (slot ≡ slotOf t (n - crossed)) ⌝ }
     ensures { λ r. ⌜ stepOf (now (cell .exit)) r ≡ crossOf t c n crossed (now (cell .entry)) state ⌝ }
     ensures { λ r. ⌜ r .draws ≤ t + 3 ⌝ }
 {
     let shutter = layout::shutter(&cell[..], t);
     let zoom = layout::zoom(&cell[..], t);
     let unit = power::unit(c, zoom);
-    enter_judged(cell, t, c, n, crossed, shutter, unit, state)
+    enter_from(cell, t, c, n, crossed, slot, shutter, unit, state)
+}
+
+// The pixel of the sub-window that ends. A far jump, which may lead from before sub-window 0, has none and asks for none.
+fn ended_slot(t: usize, n: u64, crossed: u64) -> usize
+    requires { ⌜ t ≤ 4096 ⌝ }
+    ensures { λ r. ⌜ (crossed ≤ n → r ≡ slotOf t (n - crossed)) × (r < pixelsOf t) ⌝ }
+{
+    if n < crossed {
+        return 0;
+    }
+    layout::slot(t, n - crossed)
 }
 
 // The same where the caller has read the shutter and the unit already.
@@ -132,10 +145,31 @@ pub fn enter_judged(
     ensures { λ r. ⌜ stepOf (now (cell .exit)) r ≡ crossOf t c n crossed (now (cell .entry)) state ⌝ }
     ensures { λ r. ⌜ r .draws ≤ t + 3 ⌝ }
 {
+    let slot = ended_slot(t, n, crossed);
+    enter_from(cell, t, c, n, crossed, slot, shutter, unit, state)
+}
+
+// The same from the pixel of the sub-window that ends.
+fn enter_from(
+    cell: &mut [u8],
+    t: usize,
+    c: u32,
+    n: u64,
+    crossed: u64,
+    slot: usize,
+    shutter: u32,
+    unit: u64,
+    state: u64,
+) -> Drawn
+    requires { ⌜ Judged t c (now cell) shutter unit × (slot < pixelsOf t) ⌝ }
+    requires { ⌜ (crossed < pixelsOf t → crossed ≤ n) × (crossed < pixelsOf t → slot ≡ slotOf t (n - crossed)) ⌝ }
+    ensures { λ r. ⌜ stepOf (now (cell .exit)) r ≡ crossOf t c n crossed (now (cell .entry)) state ⌝ }
+    ensures { λ r. ⌜ r .draws ≤ t + 3 ⌝ }
+{
     if crossed == 0 {
         return Drawn { state, draws: 0 };
     }
-    let drawn = enter_unzoomed(cell, t, c, n, crossed, shutter, unit, state);
+    let drawn = enter_unzoomed(cell, t, c, n, crossed, slot, shutter, unit, state);
     zoom_in(cell, t, c);
     drawn
 }
@@ -147,11 +181,13 @@ fn enter_unzoomed(
     c: u32,
     n: u64,
     crossed: u64,
+    slot: usize,
     shutter: u32,
     unit: u64,
     state: u64,
 ) -> Drawn
-    requires { ⌜ Judged t c (now cell) shutter unit × (crossed < pixelsOf t → crossed ≤ n) ⌝ }
+    requires { ⌜ Judged t c (now cell) shutter unit × (slot < pixelsOf t) ⌝ }
+    requires { ⌜ (crossed < pixelsOf t → crossed ≤ n) × (crossed < pixelsOf t → slot ≡ slotOf t (n - crossed)) ⌝ }
     ensures { λ r. ⌜ stepOf (now (cell .exit)) r ≡ insideOf t c n crossed (now (cell .entry)) state ⌝ }
     ensures { λ r. ⌜ r .draws ≤ t + 3 ⌝ }
 {
@@ -160,8 +196,8 @@ fn enter_unzoomed(
     }
     // What the shutter holds belongs to the sub-window that ends: in the new pixel it would count for a whole window.
     let ended = n - crossed;
-    let drawn = close(cell, t, c, ended, shutter, unit, state);
-    clear(cell, t, ended, crossed);
+    let drawn = close(cell, t, c, slot, shutter, unit, state);
+    clear(cell, t, slot, ended, crossed);
     drawn
 }
 
@@ -170,13 +206,13 @@ fn close(
     cell: &mut [u8],
     t: usize,
     c: u32,
-    ended: u64,
+    slot: usize,
     shutter: u32,
     unit: u64,
     state: u64,
 ) -> Drawn
-    requires { ⌜ Judged t c (now cell) shutter unit ⌝ }
-    ensures { λ r. ⌜ stepOf (now (cell .exit)) r ≡ closeOf t c (slotOf t ended) (now (cell .entry)) state ⌝ }
+    requires { ⌜ Judged t c (now cell) shutter unit × (slot < pixelsOf t) ⌝ }
+    ensures { λ r. ⌜ stepOf (now (cell .exit)) r ≡ closeOf t c slot (now (cell .entry)) state ⌝ }
     ensures { λ r. ⌜ r .draws ≤ t + 3 ⌝ }
 {
     layout::set_shutter(cell, t, 0);
@@ -191,7 +227,6 @@ fn close(
             draws: rounded.draws,
         };
     }
-    let slot = layout::slot(t, ended);
     let credited = insertion::credit_pixel(cell, t, c, slot, rounded.state);
     Drawn {
         state: credited.state,
@@ -199,18 +234,28 @@ fn close(
     }
 }
 
-// Clears the pixels of the `count` sub-windows after `ended`. The last of them may be sub-window 2^64 - 1, so the
-// number goes up before a pixel is cleared, and not after.
-fn clear(cell: &mut [u8], t: usize, ended: u64, count: u64)
-    requires { ⌜ (t ≤ 4096) × (pixelsOf t ≤ length (now cell)) × (ended + count < 2 ^ 64) ⌝ }
+// The pixel behind this one: they stand in a ring.
+fn next_slot(t: usize, slot: usize) -> usize
+    requires { ⌜ (t ≤ 4096) × (slot < pixelsOf t) ⌝ }
+    ensures { λ r. ⌜ (r ≡ (slot + 1) % pixelsOf t) × (r < pixelsOf t) ⌝ }
+{
+    let next = slot + 1;
+    if next < layout::pixels(t) {
+        return next;
+    }
+    0
+}
+
+// Clears the pixels of the `count` sub-windows after `ended`, whose pixel is known: the ring is walked without a division.
+fn clear(cell: &mut [u8], t: usize, slot: usize, ended: u64, count: u64)
+    requires { ⌜ (t ≤ 4096) × (pixelsOf t ≤ length (now cell)) × (slot ≡ slotOf t ended) ⌝ }
     ensures { λ _. ⌜ now (cell .exit) ≡ clearOf t count (ended + 1) (now (cell .entry)) ⌝ }
 {
-    let mut window = ended;
+    let mut at = slot;
     let mut left = count;
     while left > 0 {
-        window += 1;
-        let slot = layout::slot(t, window);
-        cell[slot] = 0;
+        at = next_slot(t, at);
+        cell[at] = 0;
         left -= 1;
     }
 }

@@ -1,5 +1,6 @@
 -- `advance_to`: as `update_at` without an item: the clock alone is moved.
 use Rattle.counting.proofs.CallLaws.{time-movable, advance-refused, advance-done}
+use Rattle.counting.proofs.VerdictCases.{crosses-told}
 use borrow.Author.Needs.{needs}
 use Rattle.counting.proofs.advance_to.Statement.{statement}
 use Rattle.counting.proofs.advance_to.Tie as tie
@@ -7,11 +8,17 @@ use Rattle.counting.proofs.advance_to.Tie as tie
 advanced-requires : tie.Need-advanced-requires
 advanced-requires c κs = search needs
 
+sub-window-requires : tie.Need-sub-window-requires
+sub-window-requires c κs = search needs
+
+sub-window-requires-2 : tie.Need-sub-window-requires-2
+sub-window-requires-2 c κs = search needs
+
 is-count-requires : tie.Need-is-count-requires
 is-count-requires c κs = search needs
 
 movement-requires : tie.Need-movement-requires
-movement-requires c κs = search needs
+movement-requires c κs = search (crosses-told, needs)
 
 accepted-requires : tie.Need-accepted-requires
 accepted-requires c κs = search needs
@@ -26,7 +33,7 @@ returns : tie.Need-returns
 returns c = search (advance-refused, needs)
 
 move-to-requires : tie.Need-move-to-requires
-move-to-requires c κs = (search (time-movable, needs), search needs)
+move-to-requires c κs = ((search (time-movable, needs), search needs), (search needs, search needs))
 
 answer-requires-2 : tie.Need-answer-requires-2
 answer-requires-2 c κs = search needs
@@ -42,6 +49,8 @@ advance-to-spec =
     tie.close
     (tie.spec
     advanced-requires
+    sub-window-requires
+    sub-window-requires-2
     is-count-requires
     movement-requires
     accepted-requires

@@ -1,5 +1,7 @@
 -- `update`: all is judged before the first byte is written, and either way out is what the definition gives there.
 use Rattle.counting.proofs.CallLaws.{item-judged, update-refused, update-done}
+use Rattle.counting.proofs.VerdictCases.{crosses-told}
+use mathlib.Core.Bool.{not}
 use borrow.Author.Needs.{needs}
 use Rattle.counting.proofs.update.Statement.{statement}
 use Rattle.counting.proofs.update.Tie as tie
@@ -7,11 +9,17 @@ use Rattle.counting.proofs.update.Tie as tie
 ticked-requires : tie.Need-ticked-requires
 ticked-requires c κs = search needs
 
+sub-window-requires : tie.Need-sub-window-requires
+sub-window-requires c κs = search needs
+
+sub-window-requires-2 : tie.Need-sub-window-requires-2
+sub-window-requires-2 c κs = search needs
+
 is-count-requires : tie.Need-is-count-requires
 is-count-requires c κs = search needs
 
 item-requires : tie.Need-item-requires
-item-requires c κs = search needs
+item-requires c κs = search (crosses-told, needs)
 
 accepted-requires : tie.Need-accepted-requires
 accepted-requires c κs = search needs
@@ -26,7 +34,7 @@ returns : tie.Need-returns
 returns c = search (update-refused, needs)
 
 record-and-move-requires : tie.Need-record-and-move-requires
-record-and-move-requires c κs = search (item-judged, needs)
+record-and-move-requires c κs = (item-judged _ _ _ _ (not (c .before .before .before .before .is-count .result)) _ (c .before .before .before .item .ensures) _ (c .before .before .accepted .ensures) (search needs) _ (c .before .before .before .before .before .before .before .before .ticked .ensures), search needs, search needs)
 
 answer-requires-2 : tie.Need-answer-requires-2
 answer-requires-2 c κs = search needs
@@ -42,6 +50,8 @@ update-spec =
     tie.close
     (tie.spec
     ticked-requires
+    sub-window-requires
+    sub-window-requires-2
     is-count-requires
     item-requires
     accepted-requires

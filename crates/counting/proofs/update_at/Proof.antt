@@ -1,5 +1,6 @@
 -- `update_at`: as `update`, in the other order and with the clock of time.
 use Rattle.counting.proofs.CallLaws.{item-judged, update-at-refused, update-at-done}
+use Rattle.counting.proofs.VerdictCases.{crosses-told}
 use borrow.Author.Needs.{needs}
 use Rattle.counting.proofs.update_at.Statement.{statement}
 use Rattle.counting.proofs.update_at.Tie as tie
@@ -7,11 +8,17 @@ use Rattle.counting.proofs.update_at.Tie as tie
 advanced-requires : tie.Need-advanced-requires
 advanced-requires c κs = search needs
 
+sub-window-requires : tie.Need-sub-window-requires
+sub-window-requires c κs = search needs
+
+sub-window-requires-2 : tie.Need-sub-window-requires-2
+sub-window-requires-2 c κs = search needs
+
 is-count-requires : tie.Need-is-count-requires
 is-count-requires c κs = search needs
 
 item-requires : tie.Need-item-requires
-item-requires c κs = search needs
+item-requires c κs = search (crosses-told, needs)
 
 accepted-requires : tie.Need-accepted-requires
 accepted-requires c κs = search needs
@@ -26,7 +33,7 @@ returns : tie.Need-returns
 returns c = search (update-at-refused, needs)
 
 move-and-record-requires : tie.Need-move-and-record-requires
-move-and-record-requires c κs = search (item-judged, needs)
+move-and-record-requires c κs = (search (item-judged, needs), search needs, search needs)
 
 answer-requires-2 : tie.Need-answer-requires-2
 answer-requires-2 c κs = search needs
@@ -42,6 +49,8 @@ update-at-spec =
     tie.close
     (tie.spec
     advanced-requires
+    sub-window-requires
+    sub-window-requires-2
     is-count-requires
     item-requires
     accepted-requires

@@ -14,7 +14,7 @@ unit-requires : tie.Need-unit-requires
 unit-requires c κs = (search needs, search needs, search (unit-fits, needs))
 
 insert-judged-requires : tie.Need-insert-judged-requires
-insert-judged-requires c κs = search (judged-read, needs)
+insert-judged-requires c κs = (search (judged-read, needs), search needs)
 
 same-length : tie.Need-same-length
 same-length c = search needs

@@ -1,5 +1,5 @@
 -- `insert_held`: turned back by the verdict, or done by the worker that it was judged for. Assumes nothing.
-use Rattle.cell.proofs.CallLaws.{insert-turned, insert-judged, insert-done}
+use Rattle.cell.proofs.CallLaws.{insert-turned, insert-judged, insert-few, insert-done}
 use borrow.Author.Needs.{needs}
 use Rattle.cell.proofs.insertion.insert_held.Statement.{statement}
 use Rattle.cell.proofs.insertion.insert_held.Tie as tie
@@ -13,8 +13,11 @@ turned-back-requires c κs = search needs
 returns : tie.Need-returns
 returns c = search (insert-turned, needs)
 
+slot-requires : tie.Need-slot-requires
+slot-requires c κs = search (insert-few, needs)
+
 insert-judged-requires : tie.Need-insert-judged-requires
-insert-judged-requires c κs = search (insert-judged, needs)
+insert-judged-requires c κs = (search (insert-judged, needs), search needs)
 
 done-requires : tie.Need-done-requires
 done-requires c κs = search needs
@@ -32,6 +35,7 @@ insert-held-spec =
     accepted-requires
     turned-back-requires
     returns
+    slot-requires
     insert-judged-requires
     done-requires
     same-length

@@ -22,9 +22,6 @@ returns c = (search (insert-below, needs), search needs)
 set-shutter-requires-2 : tie.Need-set-shutter-requires-2
 set-shutter-requires-2 c κs = search needs
 
-slot-requires : tie.Need-slot-requires
-slot-requires c κs = search needs
-
 credit-pixel-requires : tie.Need-credit-pixel-requires
 credit-pixel-requires c κs = (search needs, search (slot-read, needs))
 
@@ -44,7 +41,6 @@ insert-judged-spec =
     same-length
     returns
     set-shutter-requires-2
-    slot-requires
     credit-pixel-requires
     same-length-2
     returns-2)

@@ -16,9 +16,6 @@ returns c = search (item-refused, needs)
 returns-2 : tie.Need-returns-2
 returns-2 c = search (item-wrong, needs)
 
-crosses-requires : tie.Need-crosses-requires
-crosses-requires c κs = (search (item-clock, needs), search needs)
-
 all-cells-requires : tie.Need-all-cells-requires
 all-cells-requires c κs = search (item-ready, needs)
 
@@ -39,7 +36,6 @@ item-spec =
     accepted-requires
     returns
     returns-2
-    crosses-requires
     all-cells-requires
     returns-3
     key-cells-requires

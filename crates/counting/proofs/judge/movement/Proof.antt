@@ -16,9 +16,6 @@ returns c = search (movement-refused, needs)
 returns-2 : tie.Need-returns-2
 returns-2 c = search (movement-wrong, needs)
 
-crosses-requires : tie.Need-crosses-requires
-crosses-requires c κs = (search (movement-clock, needs), search needs)
-
 returns-3 : tie.Need-returns-3
 returns-3 c = search (movement-none, needs)
 
@@ -36,7 +33,6 @@ movement-spec =
     accepted-requires
     returns
     returns-2
-    crosses-requires
     returns-3
     all-cells-requires
     returns-4)

@@ -9,13 +9,19 @@ use Rattle.counting.proofs.recording.cross_cells.Statement.{statement}
 use Rattle.counting.proofs.recording.cross_cells.Tie as tie
 
 abbrev Inv-loop : tie.InvT-loop
-Inv-loop grid₀ t c count n crossed state depth after₀ draws₀ start₀ index₀ grid after draws start index = Going (crossPiece t c n crossed) (depthOf t) 4099 count grid₀ state grid after draws start index
+Inv-loop grid₀ t c count n crossed state depth slot after₀ draws₀ start₀ index₀ grid after draws start index = Going (crossPiece t c n crossed) (depthOf t) 4099 count grid₀ state grid after draws start index
 
 abbrev μ-loop : tie.MeasureT-loop
-μ-loop grid₀ t c count n crossed state depth after₀ draws₀ start₀ index₀ grid after draws start index = count - index
+μ-loop grid₀ t c count n crossed state depth slot after₀ draws₀ start₀ index₀ grid after draws start index = count - index
 
 depth-requires : tie.Need-depth-requires Inv-loop μ-loop
 depth-requires c κs = search needs
+
+sub-slot : tie.Need-sub-slot Inv-loop μ-loop
+sub-slot c = search needs
+
+slot-requires : tie.Need-slot-requires Inv-loop μ-loop
+slot-requires c κs = search needs
 
 loop-holds : tie.Need-loop-holds Inv-loop μ-loop
 loop-holds c = search (going-begin, needs)
@@ -33,7 +39,7 @@ part-enter-sub-window-end : tie.Need-part-enter-sub-window-end Inv-loop μ-loop
 part-enter-sub-window-end c = search (going-room, needs)
 
 enter-sub-window-requires : tie.Need-enter-sub-window-requires Inv-loop μ-loop
-enter-sub-window-requires c κs = (search (piece-fit, needs), search (piece-sound, needs), λ h. search needs)
+enter-sub-window-requires c κs = (search (piece-fit, needs), search (piece-sound, needs), search needs, search needs)
 
 cast-draws : tie.Need-cast-draws Inv-loop μ-loop
 cast-draws c = search needs
@@ -63,6 +69,8 @@ cross-cells-spec =
     Inv-loop
     μ-loop
     depth-requires
+    sub-slot
+    slot-requires
     loop-holds
     add-end
     sub-enter-sub-window

@@ -23,7 +23,7 @@ part-insert-end : tie.Need-part-insert-end
 part-insert-end c = search needs
 
 insert-requires : tie.Need-insert-requires
-insert-requires c κs = (search (lent-fit, needs), search (lent-sound, needs))
+insert-requires c κs = (search (lent-fit, needs), search (lent-sound, needs), search needs)
 
 same-length : tie.Need-same-length
 same-length c = search needs

@@ -8,10 +8,13 @@ use Rattle.counting.proofs.recording.insert_each.Statement.{statement}
 use Rattle.counting.proofs.recording.insert_each.Tie as tie
 
 abbrev Inv-loop : tie.InvT-loop
-Inv-loop sketch key grid₀ n state after₀ draws₀ row₀ grid after draws row = Recording sketch n key grid₀ state grid after draws row
+Inv-loop sketch key grid₀ n state slot after₀ draws₀ row₀ grid after draws row = Recording sketch n key grid₀ state grid after draws row
 
 abbrev μ-loop : tie.MeasureT-loop
-μ-loop sketch key grid₀ n state after₀ draws₀ row₀ grid after draws row = length key - row
+μ-loop sketch key grid₀ n state slot after₀ draws₀ row₀ grid after draws row = length key - row
+
+slot-requires : tie.Need-slot-requires Inv-loop μ-loop
+slot-requires c κs = search needs
 
 loop-holds : tie.Need-loop-holds Inv-loop μ-loop
 loop-holds c = search (recording-begin, needs)
@@ -49,6 +52,7 @@ insert-each-spec =
     (tie.spec
     Inv-loop
     μ-loop
+    slot-requires
     loop-holds
     key-cell-requires
     insert-at-requires

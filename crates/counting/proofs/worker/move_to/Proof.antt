@@ -4,12 +4,6 @@ use borrow.Author.Needs.{needs}
 use Rattle.counting.proofs.worker.move_to.Statement.{statement}
 use Rattle.counting.proofs.worker.move_to.Tie as tie
 
-sub-window-requires : tie.Need-sub-window-requires
-sub-window-requires c κs = search needs
-
-sub-window-requires-2 : tie.Need-sub-window-requires-2
-sub-window-requires-2 c κs = search needs
-
 went-on-requires : tie.Need-went-on-requires
 went-on-requires c κs = search needs
 
@@ -35,8 +29,6 @@ pub move-to-spec : {M : Type 1} → statement M
 move-to-spec =
     tie.close
     (tie.spec
-    sub-window-requires
-    sub-window-requires-2
     went-on-requires
     returns
     sub-begun

@@ -1,14 +1,15 @@
 -- `record_and_move`: where the move crosses, the cells are as sound after the recording as before it.
 use Rattle.counting.proofs.KeptLaws.{item-readable, recorded-movable, recorded-then}
+use Rattle.counting.proofs.PassageLaws.{recorded-n}
 use borrow.Author.Needs.{needs}
 use Rattle.counting.proofs.worker.record_and_move.Statement.{statement}
 use Rattle.counting.proofs.worker.record_and_move.Tie as tie
 
 record-item-requires : tie.Need-record-item-requires
-record-item-requires c κs = (search (item-readable, needs), search needs)
+record-item-requires c κs = (search (item-readable, needs), search needs, search needs)
 
 move-to-requires : tie.Need-move-to-requires
-move-to-requires c κs = (search (recorded-movable, needs), search needs)
+move-to-requires c κs = ((search (recorded-movable, needs), search needs), (search (recorded-n, needs), search needs))
 
 same-length : tie.Need-same-length
 same-length c = search needs

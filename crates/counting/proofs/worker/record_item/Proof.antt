@@ -4,9 +4,6 @@ use borrow.Author.Needs.{needs}
 use Rattle.counting.proofs.worker.record_item.Statement.{statement}
 use Rattle.counting.proofs.worker.record_item.Tie as tie
 
-sub-window-requires : tie.Need-sub-window-requires
-sub-window-requires c κs = search needs
-
 insert-each-requires : tie.Need-insert-each-requires
 insert-each-requires c κs = search needs
 
@@ -20,6 +17,4 @@ returns : tie.Need-returns
 returns c = (search (record-done, needs), search needs)
 
 pub record-item-spec : {M : Type 1} → statement M
-record-item-spec =
-    tie.close
-    (tie.spec sub-window-requires insert-each-requires went-on-requires same-length returns)
+record-item-spec = tie.close (tie.spec insert-each-requires went-on-requires same-length returns)

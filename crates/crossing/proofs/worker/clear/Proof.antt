@@ -1,23 +1,20 @@
--- `clear`: each turn is one clause of `clearOf`, and the sub-windows cleared and left are `count` in all. Assumes nothing.
-use Rattle.crossing.proofs.CrossingLoops.{Clearing, clearing-begin, clearing-in, clearing-on, clearing-end}
+-- `clear`: each turn is one clause of `clearOf`, and goes one pixel round the ring. Assumes nothing.
+use Rattle.crossing.proofs.CrossingLoops.{Clearing, clearing-begin, clearing-low, clearing-in, clearing-on, clearing-end}
 use borrow.Author.Needs.{needs}
 use Rattle.crossing.proofs.worker.clear.Statement.{statement}
 use Rattle.crossing.proofs.worker.clear.Tie as tie
 
 abbrev Inv-loop : tie.InvT-loop
-Inv-loop cell₀ t ended count window₀ left₀ cell window left = Clearing t cell₀ ended count cell window left
+Inv-loop cell₀ t slot ended count at₀ left₀ cell at left = Clearing t cell₀ ended count cell at left
 
 abbrev μ-loop : tie.MeasureT-loop
-μ-loop cell₀ t ended count window₀ left₀ cell window left = left
+μ-loop cell₀ t slot ended count at₀ left₀ cell at left = left
 
 loop-holds : tie.Need-loop-holds Inv-loop μ-loop
 loop-holds c = search (clearing-begin, needs)
 
-add-window : tie.Need-add-window Inv-loop μ-loop
-add-window c = search needs
-
-slot-requires : tie.Need-slot-requires Inv-loop μ-loop
-slot-requires c κs = search needs
+next-slot-requires : tie.Need-next-slot-requires Inv-loop μ-loop
+next-slot-requires c κs = (search needs, search (clearing-low, needs))
 
 slice-write-cell : tie.Need-slice-write-cell Inv-loop μ-loop
 slice-write-cell c = search (clearing-in, needs)
@@ -44,8 +41,7 @@ clear-spec =
     Inv-loop
     μ-loop
     loop-holds
-    add-window
-    slot-requires
+    next-slot-requires
     slice-write-cell
     sub-left
     loop-less

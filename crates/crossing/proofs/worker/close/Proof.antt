@@ -1,5 +1,5 @@
 -- `close`: there is nothing to round, or the rounded shutter is 0, and nothing is credited, or it is not. Assumes nothing.
-use Rattle.crossing.proofs.CrossingCases.{unit-positive, close-empty, close-none, close-credit, division-few, credited-few, credited-fits, slot-in}
+use Rattle.crossing.proofs.CrossingCases.{unit-positive, close-empty, close-none, close-credit, division-few, credited-few, credited-fits}
 use borrow.Author.Needs.{needs}
 use Rattle.crossing.proofs.worker.close.Statement.{statement}
 use Rattle.crossing.proofs.worker.close.Tie as tie
@@ -22,14 +22,11 @@ same-length-2 c = search needs
 returns-2 : tie.Need-returns-2
 returns-2 c = (search (close-none, needs), search (division-few, needs))
 
-slot-requires : tie.Need-slot-requires
-slot-requires c κs = search needs
-
 credit-pixel-requires : tie.Need-credit-pixel-requires
-credit-pixel-requires c κs = (search needs, search (slot-in, needs))
+credit-pixel-requires c κs = search needs
 
-add-t18 : tie.Need-add-t18
-add-t18 c = record { fits = search (credited-fits, needs) }
+add-t17 : tie.Need-add-t17
+add-t17 c = record { fits = search (credited-fits, needs) }
 
 same-length-3 : tie.Need-same-length-3
 same-length-3 c = search needs
@@ -47,8 +44,7 @@ close-spec =
     divide-requires
     same-length-2
     returns-2
-    slot-requires
     credit-pixel-requires
-    add-t18
+    add-t17
     same-length-3
     returns-3)

@@ -1,24 +1,21 @@
--- `enter_judged`: nothing for 0 sub-windows, else the stages and the zooming in. Assumes nothing.
-use Rattle.crossing.proofs.CrossingCases.{cross-none, cross-done}
+-- `enter_judged`: the pixel of the sub-window that ends is known unless the jump is far. Assumes nothing.
+use Rattle.crossing.proofs.CrossingCases.{ended-found}
 use borrow.Author.Needs.{needs}
 use Rattle.crossing.proofs.worker.enter_judged.Statement.{statement}
 use Rattle.crossing.proofs.worker.enter_judged.Tie as tie
 
-returns : tie.Need-returns
-returns c = (search (cross-none, needs), search needs)
+ended-slot-requires : tie.Need-ended-slot-requires
+ended-slot-requires c κs = search needs
 
-enter-unzoomed-requires : tie.Need-enter-unzoomed-requires
-enter-unzoomed-requires c κs = search needs
-
-zoom-in-requires : tie.Need-zoom-in-requires
-zoom-in-requires c κs = search needs
+enter-from-requires : tie.Need-enter-from-requires
+enter-from-requires c κs = ((search needs, search needs), (search needs, search (ended-found, needs)))
 
 same-length : tie.Need-same-length
 same-length c = search needs
 
-returns-2 : tie.Need-returns-2
-returns-2 c = (search (cross-done, needs), search needs)
+returns : tie.Need-returns
+returns c = search needs
 
 pub enter-judged-spec : {M : Type 1} → statement M
 enter-judged-spec =
-    tie.close (tie.spec returns enter-unzoomed-requires zoom-in-requires same-length returns-2)
+    tie.close (tie.spec ended-slot-requires enter-from-requires same-length returns)

@@ -1,5 +1,6 @@
 -- `enter_sub_window`: the shutter and the unit are read once, and a sound cell's unit fits. Assumes nothing.
 use Rattle.cell.proofs.SoundLaws.{unit-fits, judged-read}
+use Rattle.crossing.proofs.CrossingCases.{slot-in}
 use borrow.Author.Needs.{needs}
 use Rattle.crossing.proofs.worker.enter_sub_window.Statement.{statement}
 use Rattle.crossing.proofs.worker.enter_sub_window.Tie as tie
@@ -13,8 +14,8 @@ zoom-requires c κs = search needs
 unit-requires : tie.Need-unit-requires
 unit-requires c κs = (search needs, search needs, search (unit-fits, needs))
 
-enter-judged-requires : tie.Need-enter-judged-requires
-enter-judged-requires c κs = (search (judged-read, needs), search needs)
+enter-from-requires : tie.Need-enter-from-requires
+enter-from-requires c κs = ((search (judged-read, needs), search (slot-in, needs)), (λ h. search needs, λ h. search needs))
 
 same-length : tie.Need-same-length
 same-length c = search needs
@@ -29,6 +30,6 @@ enter-sub-window-spec =
     shutter-requires
     zoom-requires
     unit-requires
-    enter-judged-requires
+    enter-from-requires
     same-length
     returns)

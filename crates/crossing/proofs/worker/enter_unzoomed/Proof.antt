@@ -1,5 +1,5 @@
 -- `enter_unzoomed`: a far jump, or the closing and the clearing. Assumes nothing.
-use Rattle.crossing.proofs.CrossingCases.{inside-far, still-few, crossed-known, inside-near}
+use Rattle.crossing.proofs.CrossingCases.{inside-far, still-few, near-begun, near-slot, inside-near}
 use borrow.Author.Needs.{needs}
 use Rattle.crossing.proofs.worker.enter_unzoomed.Statement.{statement}
 use Rattle.crossing.proofs.worker.enter_unzoomed.Tie as tie
@@ -17,13 +17,13 @@ returns : tie.Need-returns
 returns c = (search (inside-far, needs), search (still-few, needs))
 
 sub-ended : tie.Need-sub-ended
-sub-ended c = search (crossed-known, needs)
+sub-ended c = search (near-begun, needs)
 
 close-requires : tie.Need-close-requires
-close-requires c κs = search needs
+close-requires c κs = (search needs, search needs)
 
 clear-requires : tie.Need-clear-requires
-clear-requires c κs = search needs
+clear-requires c κs = (search needs, search needs, search (near-slot, needs))
 
 same-length-2 : tie.Need-same-length-2
 same-length-2 c = search needs
