@@ -112,7 +112,10 @@ static void count(struct counter *counter, uint64_t peaks[CODE_COUNT]) {
     raise_peaks(counter, peaks);
 }
 
-/* How far Over may be from the exact count: (2k - 1) x (c^M - 1), k being the sub-windows it adds up. */
+/*
+ * How far Over may be from the exact count: (2k - 1) x (c^M - 1), k being the sub-windows it adds up. It holds from a
+ * fresh start on, without merges, while M is below microscope_base_max_zoom(C).
+ */
 static uint64_t band(const microscope_sketch *sketch, uint64_t peak) {
     uint64_t n = sub_window(sketch);
     uint64_t k = (n < T ? n : T) + 1;

@@ -74,7 +74,8 @@ fn count(counter: &mut MicroCm) -> Result<Peaks, Box<dyn Error>> {
     Ok(peaks)
 }
 
-/// How far Over may be from the exact count: (2k - 1) x (c^M - 1), k being the sub-windows it adds up.
+/// How far Over may be from the exact count: (2k - 1) x (c^M - 1), k being the sub-windows it adds up. It holds from a
+/// fresh start on, without merges, while M is below `calls::base_max_zoom(C)`.
 fn band(counter: &MicroCm, peak: u64) -> u64 {
     let k = counter.sub_window().min(T as u64) + 1;
     (2 * k - 1) * ((C as u64).pow(peak as u32) - 1)
