@@ -100,12 +100,7 @@ fn wrong_room(dice: &mut Dice, ours: &MicroCm) -> Outcome {
 }
 
 pub fn story(dice: &mut Dice) -> Outcome {
-    let settings = loop {
-        let settings = stories::settings(dice);
-        if settings.grid_bytes() <= 4_000 {
-            break settings;
-        }
-    };
+    let settings = stories::settings_within(dice, 4_000);
     let grid = stories::grid(dice, &settings);
     let reading = stories::reading(dice, &settings);
     let store = stores::encode(&settings, reading, dice.state(), &grid);

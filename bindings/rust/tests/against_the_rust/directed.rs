@@ -5,16 +5,14 @@ use crate::pair::Pair;
 use crate::score::{Outcome, called, number, same, same_number};
 use crate::stories::FRACTIONS;
 
-pub fn all() -> Vec<(&'static str, Outcome)> {
-    vec![
-        ("bench sheet", bench_sheet()),
-        ("edges of the clock", clock_edges()),
-        ("fractions", fractions()),
-        ("jumps", jumps()),
-        ("merges", merges()),
-        ("the largest grid", largest()),
-    ]
-}
+pub const ALL: [(&str, fn() -> Outcome); 6] = [
+    ("bench sheet", bench_sheet),
+    ("edges of the clock", clock_edges),
+    ("fractions", fractions),
+    ("jumps", jumps),
+    ("merges", merges),
+    ("the largest grid", largest),
+];
 
 pub const SMALL: Settings = Settings {
     rows: 2,

@@ -66,12 +66,7 @@ fn spoil_length(dice: &mut Dice, grid: &mut Vec<u8>) {
 }
 
 pub fn held(dice: &mut Dice) -> Held {
-    let settings = loop {
-        let settings = stories::settings(dice);
-        if settings.grid_bytes() <= 2_000 {
-            break settings;
-        }
-    };
+    let settings = stories::settings_within(dice, 2_000);
     let grid = stories::grid(dice, &settings);
     let reading = stories::reading(dice, &settings);
     Held {

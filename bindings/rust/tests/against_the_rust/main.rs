@@ -105,8 +105,8 @@ fn story(dice: &mut Dice) -> Outcome {
 
 fn compare(run: &Run) -> Score {
     let mut score = Score::default();
-    for (name, outcome) in directed::all().into_iter().chain(refusals::all()) {
-        score.count(name, outcome);
+    for (name, story) in directed::ALL.into_iter().chain(refusals::ALL) {
+        score.count(name, story());
     }
     let mut dice = Dice::new(run.seed, 0);
     while score::calls() < run.calls && score.differences < ENOUGH {

@@ -39,7 +39,7 @@ pub fn make(settings: &Settings) -> Result<MicroCm, microscope::Error> {
 }
 
 /// The columns as the Rust's side takes them. A key that does not fit is never handed to it.
-fn narrow(key: &[u32]) -> Vec<u16> {
+pub fn narrow(key: &[u32]) -> Vec<u16> {
     key.iter().map(|&column| column as u16).collect()
 }
 

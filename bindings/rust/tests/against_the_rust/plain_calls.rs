@@ -6,6 +6,7 @@ use crate::held::{Held, held, names, published, spoil};
 use crate::judge;
 use crate::load_order;
 use crate::numbers;
+use crate::pair::narrow;
 use crate::score::{Outcome, called, same, same_bytes, same_number};
 use crate::stories::{self, FRACTIONS};
 use microscope::calls::{self, Answer, Reading, Sketch};
@@ -39,10 +40,6 @@ fn answered(answer: Answer, right: u64, before: &Held, left: &[u8], call: impl F
     same("sketch", answer.sketch, sketch)?;
     same("draws", answer.draws, judge::draws_between(before.sketch.state, state))?;
     same_bytes("the grid", left, judge::grid(&theirs))
-}
-
-fn narrow(key: &[u32]) -> Vec<u16> {
-    key.iter().map(|&column| column as u16).collect()
 }
 
 fn changes(dice: &mut Dice, before: &Held, key: &[u32]) -> Outcome {

@@ -8,13 +8,11 @@ use crate::stores;
 use microscope::calls::{self, Sketch};
 use microscope::{MicroCm, MicroParams, SubWindowClock};
 
-pub fn all() -> Vec<(&'static str, Outcome)> {
-    vec![
-        ("settings refused", settings_refused()),
-        ("stores refused", stores_refused()),
-        ("errors in words", words()),
-    ]
-}
+pub const ALL: [(&str, fn() -> Outcome); 3] = [
+    ("settings refused", settings_refused),
+    ("stores refused", stores_refused),
+    ("errors in words", words),
+];
 
 fn settings_refused() -> Outcome {
     let params = |t, c| MicroParams { t, c };

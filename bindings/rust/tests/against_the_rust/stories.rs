@@ -4,7 +4,9 @@ use crate::choose::Dice;
 use crate::damage;
 use crate::judge::{self, Settings};
 use crate::pair::Pair;
-use crate::score::{Outcome, called, same_bytes};
+use crate::score::{Outcome, called, same, same_bytes};
+use crate::stores;
+use microscope::MicroCm;
 
 /// Bytes of a grid that crossing after crossing is still cheap with.
 const USUAL_GRID: u64 = 6_000;
@@ -60,7 +62,7 @@ fn sub_windows(dice: &mut Dice) -> u16 {
 }
 
 /// Settings with a grid of at most `room` bytes.
-fn within(dice: &mut Dice, room: u64) -> Settings {
+pub fn settings_within(dice: &mut Dice, room: u64) -> Settings {
     loop {
         let (rows, cols) = dimensions(dice);
         let settings = Settings {
@@ -79,9 +81,9 @@ fn within(dice: &mut Dice, room: u64) -> Settings {
     }
 }
 
-pub fn settings(dice: &mut Dice) -> Settings {
+fn settings(dice: &mut Dice) -> Settings {
     let room = if dice.chance(3) { LARGE_GRID } else { USUAL_GRID };
-    within(dice, room)
+    settings_within(dice, room)
 }
 
 /// A grid of sound cells, most of them near an edge of the rules.
@@ -195,7 +197,7 @@ fn items(dice: &mut Dice, pair: &mut Pair) -> Outcome {
 
 fn stored(pair: &Pair) -> Outcome {
     let clock = judge::clock(&pair.theirs);
-    let right = crate::stores::encode(
+    let right = stores::encode(
         &pair.settings,
         clock.reading,
         judge::state(&pair.theirs),
@@ -203,10 +205,10 @@ fn stored(pair: &Pair) -> Outcome {
     );
     let store = called(pair.ours.save()).map_err(|why| why.to_string())?;
     same_bytes("the store", &store, &right)?;
-    crate::score::same("length of a store", called(pair.ours.store_length()), Ok(right.len()))?;
-    crate::score::same(
+    same("length of a store", called(pair.ours.store_length()), Ok(right.len()))?;
+    same(
         "the sketch loaded",
-        called(microscope::MicroCm::load(&store)),
+        called(MicroCm::load(&store)),
         Ok(pair.ours.clone()),
     )
 }
