@@ -22,7 +22,8 @@
  * alignment. Within these rules there is no argument on which a call fails to answer: any sketch, any bytes, any
  * numbers.
  *
- * STACK. A merge takes about 17 KB of stack, of which 16 are its table of sums; every other call less than 2 KB.
+ * STACK. A merge takes about 17 KB of stack, of which 16 are its table of sums; every other call less than 4 KB.
+ * (Seen in the machine code, not proved.)
  *
  * REFUSALS. Every answer carries a number: 0 if the call was accepted, else why it was refused, and then every byte
  * lent is as it was. If more than one number applies it is the lowest (a load has an order of its own: see there).
@@ -187,10 +188,13 @@ microscope_number microscope_mean(microscope_sketch sketch, const uint32_t *key,
 microscope_verdict microscope_bucket_check(microscope_sketch sketch, size_t row, size_t col, const uint8_t *grid,
                                            size_t grid_bytes);
 
-/* The highest zoom that any cell has now. 0: every figure is exact but for keys that share cells. */
+/*
+ * The highest zoom that any cell has now. A sketch that never left 0 has counted each item by itself: its figures are
+ * exact, but for keys that share cells.
+ */
 microscope_number microscope_max_zoom(microscope_sketch sketch, const uint8_t *grid, size_t grid_bytes);
 
-/* Whether every cell is sound. Cells that these calls wrote are. */
+/* Whether every cell is sound. Those of a fresh sketch are, and no call makes a sound cell unsound. */
 microscope_found microscope_audit(microscope_sketch sketch, const uint8_t *grid, size_t grid_bytes);
 
 /*
