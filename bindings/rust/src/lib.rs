@@ -1,0 +1,22 @@
+//! MicroScope counting core: how often did a key come inside a sliding window?
+//!
+//! [`MicroCm`] is the sketch with a grid of its own; its methods have the names of the Rust that the core was ported
+//! from. [`calls`] are the library's calls one by one, for those who keep the grid in memory of their own.
+//!
+//! The counting is done by libmicroscope.a, whose every call is proved to be what its definition says. This wrapper is
+//! tested only; docs/EDGE.md says where the line runs.
+
+#![deny(unsafe_code)]
+#![warn(missing_docs)]
+
+// `forbid` at the root could not be lifted for the one module that needs it, so each of the others has its own.
+#[allow(unsafe_code)]
+pub mod calls;
+mod clock;
+mod error;
+mod plain;
+mod sketch;
+
+pub use clock::SubWindowClock;
+pub use error::Error;
+pub use sketch::{MicroCm, MicroParams, Reading};

@@ -1,0 +1,272 @@
+//! A sketch that owns its grid.
+
+#![forbid(unsafe_code)]
+
+use crate::calls::{self, Answer, Sketch};
+use crate::{Error, SubWindowClock};
+
+/// The shape of a cell.
+#[derive(Clone, Copy, Debug, PartialEq, Eq)]
+pub struct MicroParams {
+    /// Sub-windows in the window, 1 to 4,096.
+    pub t: usize,
+    /// The zoom's base, 2 to 256.
+    pub c: u32,
+}
+
+/// The figures of a key, in items.
+#[derive(Clone, Copy, Debug, PartialEq)]
+pub struct Reading {
+    /// The t latest sub-windows and the one before them: the published `DeltaStrategy::Over`.
+    pub over: f64,
+    /// The t latest sub-windows: the published `DeltaStrategy::Under`.
+    pub under: f64,
+    /// Under, and the one before by the fraction: the published `DeltaStrategy::Linear`.
+    pub linear: f64,
+    /// How much of the oldest sub-window was counted in `linear`.
+    pub fraction: f64,
+    /// Over as a whole number.
+    pub over_items: u64,
+    /// Under as a whole number.
+    pub under_items: u64,
+}
+
+/// A sliding-window frequency sketch. A key is its columns, one a row, each below `cols`; how a key becomes columns (a
+/// hash) is the caller's.
+#[derive(Clone, Debug, PartialEq, Eq)]
+pub struct MicroCm {
+    sketch: Sketch,
+    grid: Vec<u8>,
+}
+
+/// The number of a grid that has not the right length.
+const WRONG_BYTES: u64 = 6;
+
+impl MicroCm {
+    /// A fresh sketch: nothing counted, and the clock at its start. The same seed and calls give the same bytes.
+    pub fn with_dimensions(
+        rows: usize,
+        cols: usize,
+        params: MicroParams,
+        clock: SubWindowClock,
+        rounding_seed: u64,
+    ) -> Result<Self, Error> {
+        let MicroParams { t, c } = params;
+        let plain = clock.plain();
+        let fresh = |grid: &mut [u8]| {
+            calls::new(
+                rows,
+                cols,
+                t,
+                c,
+                plain.kind,
+                plain.length,
+                plain.epoch,
+                rounding_seed,
+                grid,
+            )
+        };
+        // No grid is empty, so this one is refused: by 6 if there is nothing wrong with the settings.
+        unless_only_bytes(fresh(&mut []))?;
+        Self::filled(grid_bytes(rows, cols, params)?, fresh)
+    }
+
+    /// One item, on a clock of items. Gives the random draws made.
+    pub fn update(&mut self, key: &[u32]) -> Result<u64, Error> {
+        let answer = calls::update(self.sketch, key, &mut self.grid);
+        self.go_on(answer)
+    }
+
+    /// One item at this time, on a clock of time; an older time stamp counts as the latest. Gives the draws made.
+    pub fn update_at(&mut self, key: &[u32], timestamp: u64) -> Result<u64, Error> {
+        let answer = calls::update_at(self.sketch, key, timestamp, &mut self.grid);
+        self.go_on(answer)
+    }
+
+    /// Time passes without an item: before reading a key that has gone quiet. Gives the draws made.
+    pub fn advance_to(&mut self, timestamp: u64) -> Result<u64, Error> {
+        let answer = calls::advance_to(self.sketch, timestamp, &mut self.grid);
+        self.go_on(answer)
+    }
+
+    /// The figures of a key; `linear` is what the published `estimate` gives.
+    pub fn estimate(&self, key: &[u32]) -> Result<Reading, Error> {
+        figures(calls::estimate(self.sketch, key, &self.grid))
+    }
+
+    /// The figures of a key with a given fraction, 0 to 1, of the oldest sub-window.
+    pub fn estimate_with(&self, key: &[u32], fraction: f64) -> Result<Reading, Error> {
+        figures(calls::estimate_with(self.sketch, key, fraction, &self.grid))
+    }
+
+    /// Items a sub-window: Under divided by t, rounded down.
+    pub fn mean(&self, key: &[u32]) -> Result<u64, Error> {
+        let answer = calls::mean(self.sketch, key, &self.grid);
+        Error::unless_accepted(answer.number, answer.index)?;
+        Ok(answer.value)
+    }
+
+    /// Adds the counts of another sketch of the same settings that has reached the same sub-window. Gives the draws.
+    pub fn merge(&mut self, other: &Self) -> Result<u64, Error> {
+        let answer = calls::merge(self.sketch, &mut self.grid, other.sketch, &other.grid);
+        self.go_on(answer)
+    }
+
+    /// The highest zoom that any cell has now.
+    pub fn max_zoom(&self) -> Result<u8, Error> {
+        let answer = calls::max_zoom(self.sketch, &self.grid);
+        Error::unless_accepted(answer.number, answer.index)?;
+        Ok(answer.value as u8)
+    }
+
+    /// An unsound cell (row × cols + column), if there is one. A sketch that only these methods wrote has none.
+    pub fn audit(&self) -> Result<Option<usize>, Error> {
+        let found = calls::audit(self.sketch, &self.grid);
+        Error::unless_accepted(found.number, 0)?;
+        Ok((found.unsound != 0).then_some(found.index))
+    }
+
+    /// The bytes of one cell: t + 2 pixels, the zoom, the shutter (4 bytes, low byte first), pad bytes.
+    pub fn bucket_slice(&self, row: usize, col: usize) -> Result<&[u8], Error> {
+        let verdict = calls::bucket_check(self.sketch, row, col, &self.grid);
+        Error::unless_accepted(verdict.number, verdict.index)?;
+        let depth = self.cell_bytes();
+        let start = (row * self.sketch.cols + col) * depth;
+        Ok(&self.grid[start..start + depth])
+    }
+
+    /// How many bytes `save` gives.
+    pub fn store_length(&self) -> Result<usize, Error> {
+        let answer = calls::store_length(self.sketch);
+        Error::unless_accepted(answer.number, answer.index)?;
+        Ok(answer.value as usize)
+    }
+
+    /// The store of this sketch: a form that outlives the process.
+    pub fn save(&self) -> Result<Vec<u8>, Error> {
+        let mut store = vec![0; self.store_length()?];
+        self.save_to(&mut store)?;
+        Ok(store)
+    }
+
+    /// The same into a buffer of exactly `store_length` bytes.
+    pub fn save_to(&self, store: &mut [u8]) -> Result<(), Error> {
+        let verdict = calls::save(store, self.sketch, &self.grid);
+        Error::unless_accepted(verdict.number, verdict.index)
+    }
+
+    /// The sketch that was saved.
+    pub fn load(store: &[u8]) -> Result<Self, Error> {
+        // Refused by 6 if there is nothing wrong but that the grid is missing; then the header can be trusted.
+        unless_only_bytes(calls::load(&mut [], store))?;
+        let field = |at: usize| u32::from_le_bytes([store[at], store[at + 1], store[at + 2], store[at + 3]]);
+        let params = MicroParams {
+            t: field(16) as usize,
+            c: field(20),
+        };
+        let bytes = grid_bytes(field(8) as usize, field(12) as usize, params)?;
+        Self::filled(bytes, |grid| calls::load(grid, store))
+    }
+
+    /// Number of rows.
+    pub fn rows(&self) -> usize {
+        self.sketch.rows
+    }
+
+    /// Number of columns a row.
+    pub fn cols(&self) -> usize {
+        self.sketch.cols
+    }
+
+    /// The shape of a cell.
+    pub fn params(&self) -> MicroParams {
+        MicroParams {
+            t: self.sketch.t,
+            c: self.sketch.c,
+        }
+    }
+
+    /// The clock as it stands.
+    pub fn clock(&self) -> SubWindowClock {
+        SubWindowClock::of(&self.sketch)
+    }
+
+    /// The random state to go on with.
+    pub fn state(&self) -> u64 {
+        self.sketch.state
+    }
+
+    /// All cells, row by row.
+    pub fn grid(&self) -> &[u8] {
+        &self.grid
+    }
+
+    /// The sketch as [`calls`] take it.
+    pub fn plain(&self) -> Sketch {
+        self.sketch
+    }
+
+    /// Bytes a cell.
+    pub fn cell_bytes(&self) -> usize {
+        self.grid.len() / (self.sketch.rows * self.sketch.cols)
+    }
+
+    /// Bytes this sketch holds: the struct and its cells.
+    pub fn memory_bytes(&self) -> usize {
+        size_of::<Self>() + self.grid.len()
+    }
+
+    /// The sub-window reached.
+    pub fn sub_window(&self) -> u64 {
+        self.clock().n()
+    }
+
+    /// How much of the oldest sub-window is still inside the window.
+    pub fn residual_fraction(&self) -> f64 {
+        self.clock().residual_fraction()
+    }
+
+    /// A sketch whose grid this call fills.
+    fn filled(bytes: usize, fill: impl Fn(&mut [u8]) -> Answer) -> Result<Self, Error> {
+        let mut grid = vec![0; bytes];
+        let answer = fill(&mut grid);
+        Error::unless_accepted(answer.number, answer.index)?;
+        Ok(Self {
+            sketch: answer.sketch,
+            grid,
+        })
+    }
+
+    fn go_on(&mut self, answer: Answer) -> Result<u64, Error> {
+        Error::unless_accepted(answer.number, answer.index)?;
+        self.sketch = answer.sketch;
+        Ok(answer.draws)
+    }
+}
+
+/// A refusal, unless it is for the grid's length alone.
+fn unless_only_bytes(answer: Answer) -> Result<(), Error> {
+    match answer.number {
+        WRONG_BYTES => Ok(()),
+        number => Error::unless_accepted(number, answer.index),
+    }
+}
+
+/// The bytes of a grid whose settings were accepted; that keeps the product below 2^32.
+fn grid_bytes(rows: usize, cols: usize, params: MicroParams) -> Result<usize, Error> {
+    let depth = calls::depth(params.t, params.c);
+    Error::unless_accepted(depth.number, depth.index)?;
+    Ok(rows * cols * depth.value as usize)
+}
+
+fn figures(answer: calls::Reading) -> Result<Reading, Error> {
+    Error::unless_accepted(answer.number, answer.index)?;
+    Ok(Reading {
+        over: answer.over,
+        under: answer.under,
+        linear: answer.linear,
+        fraction: answer.fraction,
+        over_items: answer.over_items,
+        under_items: answer.under_items,
+    })
+}

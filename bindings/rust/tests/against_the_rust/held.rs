@@ -1,0 +1,123 @@
+//! Sketches and grids with plain values, good and bad.
+
+use crate::choose::Dice;
+use crate::judge::{self, Settings};
+use crate::numbers;
+use crate::score::{Outcome, same};
+use crate::stories;
+use microscope::calls::Sketch;
+
+/// A sketch with its grid, as a caller of another make might hand them over.
+#[derive(Clone)]
+pub struct Held {
+    pub sketch: Sketch,
+    pub grid: Vec<u8>,
+}
+
+fn sketch_of(settings: &Settings, reading: u64, state: u64) -> Sketch {
+    Sketch {
+        rows: settings.rows as usize,
+        cols: settings.cols as usize,
+        t: settings.t as usize,
+        c: settings.c as u32,
+        kind: settings.timed as u32,
+        length: settings.length,
+        epoch: if settings.timed { settings.epoch } else { 0 },
+        reading,
+        state,
+    }
+}
+
+/// Makes some cell unsound: a zoom above the largest, or a shutter at c^Z or above.
+fn spoil_cell(dice: &mut Dice, held: &mut Held) {
+    let (t, c) = (held.sketch.t, held.sketch.c);
+    let cells = held.grid.len() / numbers::depth(t);
+    let at = dice.below(cells as u64) as usize * numbers::depth(t);
+    let cell = &mut held.grid[at..];
+    let unit = numbers::unit(c, cell[t + 2]).expect("a sound cell");
+    if dice.chance(50) {
+        cell[t + 2] = dice.one_of(&[judge::max_zoom(c as u16) + 1, 255]);
+    } else {
+        let shutter = dice.one_of(&[unit, u32::MAX as u64]) as u32;
+        cell[t + 3..t + 7].copy_from_slice(&shutter.to_le_bytes());
+    }
+}
+
+fn spoil_setting(dice: &mut Dice, s: &mut Sketch) {
+    match dice.below(9) {
+        0 => s.t = dice.one_of(&[0, 4097, 65_537, usize::MAX, 1 << 32]),
+        1 => s.c = dice.one_of(&[0, 1, 257, u32::MAX]),
+        2 => s.kind = dice.one_of(&[2, 3, 256, u32::MAX]),
+        3 => s.length = dice.one_of(&[0, (1 << 53) + 1, u64::MAX]),
+        4 => s.rows = dice.one_of(&[0, 129, usize::MAX, 1 << 32, 1 << 63]),
+        5 => s.cols = dice.one_of(&[0, 1, 3, 6, 131_072, 1 << 63, usize::MAX]),
+        6 => s.state = 0,
+        7 => s.rows = dice.within(1, 130) as usize,
+        _ => s.cols = 1 << dice.within(1, 17),
+    }
+}
+
+fn spoil_length(dice: &mut Dice, grid: &mut Vec<u8>) {
+    match dice.below(3) {
+        0 => grid.push(0),
+        1 => drop(grid.pop()),
+        _ => grid.clear(),
+    }
+}
+
+pub fn held(dice: &mut Dice) -> Held {
+    let settings = stories::settings_within(dice, 2_000);
+    let grid = stories::grid(dice, &settings);
+    let reading = stories::reading(dice, &settings);
+    Held {
+        sketch: sketch_of(&settings, reading, dice.state()),
+        grid,
+    }
+}
+
+/// Mostly one thing wrong; sometimes none, sometimes more.
+pub fn spoil(dice: &mut Dice, held: &mut Held) {
+    if dice.chance(20) {
+        spoil_cell(dice, held);
+    }
+    if dice.chance(15) {
+        spoil_length(dice, &mut held.grid);
+    }
+    while dice.chance(25) {
+        spoil_setting(dice, &mut held.sketch);
+    }
+    // A clock that counts has no epoch, so any is as good as 0.
+    if held.sketch.kind == 0 && dice.chance(20) {
+        held.sketch.epoch = dice.any();
+    }
+}
+
+/// The Rust's own sketch of values that ours accepts.
+pub fn published(held: &Held) -> judge::Sketch {
+    let s = &held.sketch;
+    let settings = Settings {
+        rows: s.rows as u16,
+        cols: s.cols as u32,
+        t: s.t as u16,
+        c: s.c as u16,
+        timed: s.kind == 1,
+        length: s.length,
+        epoch: s.epoch,
+        seed: 1,
+    };
+    let mut theirs = settings.make();
+    judge::set(&mut theirs, s.reading, s.state);
+    judge::set_grid(&mut theirs, &held.grid);
+    theirs
+}
+
+/// With 14 an unsound cell is named, with any other number none.
+pub fn names(number: u64, index: usize, held: &[&Held]) -> Outcome {
+    if number != 14 {
+        return same("index", index, 0);
+    }
+    let named = held
+        .iter()
+        .any(|held| index < held.sketch.rows * held.sketch.cols && !numbers::cell(&held.sketch, &held.grid, index));
+    same("an unsound cell is named", named, true)
+}

@@ -1,0 +1,236 @@
+//! A sketch of ours and one of the published Rust's that are told the same and must stay the same.
+
+use crate::judge::{self, Settings};
+use crate::score::{Outcome, called, number, same, same_bytes, same_number};
+use crate::stores;
+use microscope::{MicroCm, MicroParams, SubWindowClock};
+
+/// Grids up to this size are compared after each call; of larger ones every 64th call, and always at the end.
+const SMALL: usize = 8192;
+
+pub struct Pair {
+    pub settings: Settings,
+    pub ours: MicroCm,
+    pub theirs: judge::Sketch,
+    looked: u64,
+}
+
+pub fn clock_of(settings: &Settings) -> SubWindowClock {
+    if settings.timed {
+        SubWindowClock::time_based(settings.length, settings.epoch)
+    } else {
+        SubWindowClock::count_based(settings.length)
+    }
+}
+
+pub fn make(settings: &Settings) -> Result<MicroCm, microscope::Error> {
+    let params = MicroParams {
+        t: settings.t as usize,
+        c: settings.c as u32,
+    };
+    let (rows, cols) = (settings.rows as usize, settings.cols as usize);
+    called(MicroCm::with_dimensions(
+        rows,
+        cols,
+        params,
+        clock_of(settings),
+        settings.seed,
+    ))
+}
+
+/// The columns as the Rust's side takes them. A key that does not fit is never handed to it.
+pub fn narrow(key: &[u32]) -> Vec<u16> {
+    key.iter().map(|&column| column as u16).collect()
+}
+
+impl Pair {
+    pub fn fresh(settings: Settings) -> Result<Self, String> {
+        let ours = make(&settings).map_err(|why| why.to_string())?;
+        let mut pair = Self {
+            settings,
+            ours,
+            theirs: settings.make(),
+            looked: 0,
+        };
+        pair.agree_wholly()?;
+        Ok(pair)
+    }
+
+    /// A sketch in the middle of its life: ours comes from a store that the test wrote.
+    pub fn loaded(settings: Settings, reading: u64, state: u64, grid: &[u8]) -> Result<Self, String> {
+        let mut theirs = settings.make();
+        judge::set(&mut theirs, reading, state);
+        judge::set_grid(&mut theirs, grid);
+        let store = stores::encode(&settings, reading, state, grid);
+        let mut pair = Self {
+            settings,
+            ours: called(MicroCm::load(&store)).map_err(|why| why.to_string())?,
+            theirs,
+            looked: 0,
+        };
+        pair.agree_wholly()?;
+        Ok(pair)
+    }
+
+    /// Whether one column a row is there, each below cols.
+    pub fn fits(&self, key: &[u32]) -> bool {
+        key.len() == self.ours.rows() && key.iter().all(|&column| (column as usize) < self.ours.cols())
+    }
+
+    pub fn update(&mut self, key: &[u32]) -> Outcome {
+        let answer = called(self.ours.update(key));
+        let refusal = if self.fits(key) {
+            8 * self.settings.timed as u64
+        } else {
+            7
+        };
+        self.told(answer, refusal, |theirs| judge::update(theirs, &narrow(key)))
+    }
+
+    pub fn update_at(&mut self, key: &[u32], time: u64) -> Outcome {
+        let answer = called(self.ours.update_at(key, time));
+        let refusal = if self.fits(key) {
+            8 * !self.settings.timed as u64
+        } else {
+            7
+        };
+        self.told(answer, refusal, |theirs| {
+            judge::update_at(theirs, &narrow(key), time).expect("a clock of time")
+        })
+    }
+
+    pub fn advance_to(&mut self, time: u64) -> Outcome {
+        let answer = called(self.ours.advance_to(time));
+        let refusal = 8 * !self.settings.timed as u64;
+        self.told(answer, refusal, |theirs| {
+            judge::advance_to(theirs, time).expect("a clock of time")
+        })
+    }
+
+    pub fn merge(&mut self, other: &Pair) -> Outcome {
+        let answer = called(self.ours.merge(&other.ours));
+        let before = judge::state(&self.theirs);
+        let right = judge::merge_sketches(&mut self.theirs, &other.theirs);
+        same_number("the merge's number", number(&answer), right.err().unwrap_or(0) as u64)?;
+        self.drew(answer.unwrap_or(0), before)?;
+        other.equal_grids()
+    }
+
+    /// The Rust is called only if ours is to accept.
+    fn told(
+        &mut self,
+        answer: Result<u64, microscope::Error>,
+        refusal: u64,
+        call: impl FnOnce(&mut judge::Sketch),
+    ) -> Outcome {
+        same_number("the number", number(&answer), refusal)?;
+        let before = judge::state(&self.theirs);
+        if refusal == 0 {
+            call(&mut self.theirs);
+        }
+        self.drew(answer.unwrap_or(0), before)
+    }
+
+    fn drew(&mut self, draws: u64, before: u64) -> Outcome {
+        same("draws", draws, judge::draws_between(before, judge::state(&self.theirs)))?;
+        self.agree()
+    }
+
+    pub fn read(&self, key: &[u32]) -> Outcome {
+        let answer = called(self.ours.estimate(key));
+        let mean = called(self.ours.mean(key));
+        if !self.fits(key) {
+            same_number("the reading's number", number(&answer), 7)?;
+            return same_number("the mean's number", number(&mean), 7);
+        }
+        let reading = answer.map_err(|why| why.to_string())?;
+        self.figures(&reading, judge::read(&self.theirs, &narrow(key)))?;
+        same("mean", mean, Ok(reading.under_items / self.settings.t as u64))
+    }
+
+    pub fn read_with(&self, key: &[u32], fraction: f64) -> Outcome {
+        let answer = called(self.ours.estimate_with(key, fraction));
+        if !self.fits(key) {
+            return same_number("the reading's number", number(&answer), 7);
+        }
+        let right = judge::read_with(&self.theirs, &narrow(key), fraction.to_bits());
+        same_number("the reading's number", number(&answer), right.err().unwrap_or(0) as u64)?;
+        match (answer, right) {
+            (Ok(reading), Ok(figures)) => self.figures(&reading, figures),
+            _ => Ok(()),
+        }
+    }
+
+    fn figures(&self, reading: &microscope::Reading, right: judge::Figures) -> Outcome {
+        let figures = [reading.over, reading.under, reading.linear, reading.fraction];
+        same("figures", figures.map(f64::to_bits), right)?;
+        let items = [reading.over_items, reading.under_items];
+        same(
+            "figures in items",
+            items.map(|n| n as f64),
+            [reading.over, reading.under],
+        )
+    }
+
+    /// What a sketch tells of itself.
+    pub fn look(&self, row: usize, col: usize) -> Outcome {
+        let (ours, theirs) = (&self.ours, &self.theirs);
+        same("rows", called(ours.rows()), theirs.rows())?;
+        same("cols", called(ours.cols()), theirs.cols())?;
+        let params = theirs.params();
+        same(
+            "t and c",
+            called((ours.params().t, ours.params().c)),
+            (params.t, params.c),
+        )?;
+        same("bytes a cell", called(ours.cell_bytes()), theirs.cell_bytes())?;
+        let bytes = size_of::<MicroCm>() + judge::grid(theirs).len();
+        same("bytes in memory", called(ours.memory_bytes()), bytes)?;
+        same("n", called(ours.sub_window()), theirs.sub_window())?;
+        let fraction = called(ours.residual_fraction()).to_bits();
+        same("fraction", fraction, theirs.residual_fraction().to_bits())?;
+        same("highest zoom", called(ours.max_zoom()), Ok(theirs.max_zoom()))?;
+        same("audit", called(ours.audit()), Ok(None))?;
+        let cell = called(ours.bucket_slice(row, col));
+        if row >= ours.rows() || col >= ours.cols() {
+            return same_number("the cell's number", number(&cell), 7);
+        }
+        same("cell", cell, Ok(theirs.as_storage().bucket_slice(row, col)))
+    }
+
+    /// What the clock, the state and (of small ones) the grid are after a call.
+    fn agree(&mut self) -> Outcome {
+        let clock = judge::clock(&self.theirs);
+        same("state", self.ours.state(), judge::state(&self.theirs))?;
+        same("clock", self.ours.clock(), our_clock(clock))?;
+        same("n", self.ours.sub_window(), clock.n())?;
+        self.looked += 1;
+        if self.ours.grid().len() <= SMALL || self.looked % 64 == 0 {
+            self.equal_grids()?;
+        }
+        Ok(())
+    }
+
+    fn equal_grids(&self) -> Outcome {
+        same_bytes("the grid", self.ours.grid(), judge::grid(&self.theirs))
+    }
+
+    pub fn agree_wholly(&mut self) -> Outcome {
+        self.agree()?;
+        self.equal_grids()
+    }
+}
+
+fn our_clock(clock: judge::Clock) -> SubWindowClock {
+    if clock.timed {
+        return SubWindowClock::TimeBased {
+            sub_window_len: clock.length,
+            epoch: clock.epoch,
+            now: clock.reading,
+        };
+    }
+    SubWindowClock::CountBased {
+        items_per_sub_window: clock.length,
+        seen: clock.reading,
+    }
+}

@@ -1,0 +1,114 @@
+//! Each cause of a refusal by itself, with its number worked out by hand.
+
+use crate::damage;
+use crate::directed::SMALL;
+use crate::pair::{Pair, make};
+use crate::score::{Outcome, called, number, same, same_number};
+use crate::stores;
+use microscope::calls::{self, Sketch};
+use microscope::{MicroCm, MicroParams, SubWindowClock};
+
+pub const ALL: [(&str, fn() -> Outcome); 3] = [
+    ("settings refused", settings_refused),
+    ("stores refused", stores_refused),
+    ("errors in words", words),
+];
+
+fn settings_refused() -> Outcome {
+    let params = |t, c| MicroParams { t, c };
+    let count = SubWindowClock::count_based;
+    let cases = [
+        (1, 1, 2, params(0, 0), count(0)),
+        (1, 1, 2, params(4097, 2), count(1)),
+        (2, 1, 2, params(1, 1), count(0)),
+        (2, 1, 2, params(4096, 257), count(1)),
+        (3, 0, 0, params(1, 2), count(0)),
+        (3, 1, 2, params(1, 2), SubWindowClock::time_based((1 << 53) + 1, 0)),
+        (4, 0, 2, params(1, 2), count(1)),
+        (4, 1, 1, params(1, 2), count(1)),
+        (4, 1, 3, params(1, 2), count(1)),
+        (4, 1, 131_072, params(1, 2), count(1)),
+        (4, 9, 65_536, params(4096, 2), count(1)),
+        (4, usize::MAX, usize::MAX, params(1, 2), count(1)),
+        (4, 1 << 63, 2, params(1, 2), count(1)),
+    ];
+    for (right, rows, cols, params, clock) in cases {
+        let answer = called(MicroCm::with_dimensions(rows, cols, params, clock, 1));
+        same_number("the fresh start's number", number(&answer), right)?;
+    }
+    for kind in [2, 3, 1 << 31, u32::MAX] {
+        let answer = called(calls::new(1, 2, 1, 2, kind, 1, 0, 1, &mut [9; 16]));
+        same_number("the number of an unknown kind", answer.number, 3)?;
+        let sketch = Sketch {
+            kind,
+            ..make(&SMALL).map_err(|why| why.to_string())?.plain()
+        };
+        same_number(
+            "the number of an unknown kind",
+            called(calls::store_length(sketch)).number,
+            3,
+        )?;
+    }
+    Ok(())
+}
+
+/// Each cause of a load's own order by itself.
+fn stores_refused() -> Outcome {
+    let good = Pair::fresh(SMALL)?.ours;
+    let (header, grid) = (stores::header(&SMALL, 0, 7), good.grid().to_vec());
+    let store = stores::of_payloads(&header, &grid);
+    damage::refused(&store, 96, 0)?;
+    damage::refused(&store, 95, 6)?;
+    damage::refused(&[], 96, 16)?;
+    damage::refused(&store[..511], 96, 16)?;
+    damage::refused(&store[..512], 96, 16)?;
+    damage::refused(&stores::of_payloads(&header, &[0; 505]), 96, 16)?;
+    damage::refused(&[&store[512..], &store[..512]].concat(), 96, 17)?;
+    damage::refused(&stores::of_payloads(&header, &[&grid[..], &[1]].concat()), 96, 18)?;
+    let mut unsound = grid.clone();
+    unsound[12 * 5 + 4] = 32;
+    damage::refused(&stores::of_payloads(&header, &unsound), 96, 14)?;
+    let index = MicroCm::load(&stores::of_payloads(&header, &unsound))
+        .err()
+        .and_then(|why| why.index());
+    same("the unsound cell", index, Some(5))?;
+    // At this byte of the header this value.
+    let fields = [
+        (0, 2, 18),
+        (4, 0, 4),
+        (8, 3, 4),
+        (12, 0, 1),
+        (16, 1, 2),
+        (20, 2, 18),
+        (32, 1, 18),
+        (48, 0, 5),
+        (4, 11, 16),
+    ];
+    for (at, value, right) in fields {
+        let mut other = header.clone();
+        other[at] = value;
+        damage::refused(&stores::of_payloads(&other, &grid), 96, right)?;
+    }
+    let mut other = header.clone();
+    other[24..32].fill(0);
+    damage::refused(&stores::of_payloads(&other, &grid), 96, 3)?;
+    other = header;
+    other.resize(504, 0);
+    other[503] = 1;
+    damage::refused(&stores::of_payloads(&other, &grid), 96, 18)
+}
+
+fn words() -> Outcome {
+    let mut ours = make(&SMALL).map_err(|why| why.to_string())?;
+    let told = called(ours.update(&[0])).map_err(|why| why.to_string());
+    same(
+        "7 in words",
+        told,
+        Err("refused by 7: not one column a row, or a row or column out of range".into()),
+    )?;
+    let mut unsound = vec![0; 96];
+    unsound[12 * 5 + 4] = 32;
+    let store = stores::encode(&SMALL, 0, 7, &unsound);
+    let told = called(MicroCm::load(&store)).map_err(|why| why.to_string());
+    same("14 in words", told, Err("refused by 14: unsound cell 5".into()))
+}

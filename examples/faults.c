@@ -1,0 +1,192 @@
+/*
+ * Counts fault codes from a small trace, reads them, and reads them again from a store.
+ *
+ *   faults STORE     writes the store to that file
+ *
+ * examples/faults.rs is the same over the Rust wrapper and prints the same bytes.
+ */
+#include <inttypes.h>
+#include <stdio.h>
+#include <stdlib.h>
+#include <string.h>
+
+#include "microscope.h"
+
+/* The last five minutes, by sub-windows of a minute; time stamps are in seconds. */
+enum { ROWS = 4, COLS = 64, T = 5, C = 2, MINUTE = 60 };
+enum { DEPTH = (T + 7 + 3) / 4 * 4, GRID_BYTES = ROWS * COLS * DEPTH };
+enum { STORE_BYTES = 512 * (1 + (GRID_BYTES + 503) / 504) };
+enum { EPOCH = 1000, SEED = 2023 };
+
+static const char *const CODES[] = {"P0301", "P0420", "P0171", "U0100", "C1201"};
+enum { CODE_COUNT = sizeof CODES / sizeof CODES[0] };
+
+/* At this second the code came so many times. */
+struct event {
+    uint64_t second;
+    int code;
+    int times;
+};
+
+static const struct event TRACE[] = {
+    {1003, 0, 4},   {1010, 1, 1},   {1015, 3, 30},  {1042, 0, 9},   {1059, 2, 2},   {1061, 3, 270}, {1075, 0, 12},
+    {1099, 4, 1},   {1118, 3, 801}, {1121, 0, 3},   {1140, 1, 1},   {1166, 3, 95},  {1190, 2, 1},   {1184, 0, 5},
+    {1241, 0, 700}, {1250, 3, 40},  {1277, 4, 2},   {1301, 0, 333}, {1339, 1, 1},   {1342, 3, 7},
+};
+enum { EVENT_COUNT = sizeof TRACE / sizeof TRACE[0] };
+
+/* When the reading is made: half a minute after the last event. */
+enum { READING_AT = 1372 };
+
+/* A sketch with the grid that belongs to it. */
+struct counter {
+    microscope_sketch sketch;
+    uint8_t grid[GRID_BYTES];
+};
+
+static void accepted(uint64_t number, const char *call) {
+    if (number != MICROSCOPE_ACCEPTED) {
+        fprintf(stderr, "%s: refused by %" PRIu64 "\n", call, number);
+        exit(1);
+    }
+}
+
+/* A key is one column a row: an FNV-1a of the row and the code, its high bits folded in. Any good hash will do. */
+static void columns_of(const char *code, uint32_t key[ROWS]) {
+    for (uint32_t row = 0; row < ROWS; row++) {
+        uint64_t hash = (UINT64_C(14695981039346656037) ^ row) * UINT64_C(1099511628211);
+        for (const char *at = code; *at != 0; at++) {
+            hash = (hash ^ (uint8_t)*at) * UINT64_C(1099511628211);
+        }
+        key[row] = (uint32_t)(hash ^ hash >> 32) & (COLS - 1);
+    }
+}
+
+static const uint8_t *cell_at(const struct counter *counter, size_t row, uint32_t col) {
+    accepted(microscope_bucket_check(counter->sketch, row, col, counter->grid, GRID_BYTES).number, "bucket_check");
+    return counter->grid + (row * COLS + col) * DEPTH;
+}
+
+static uint64_t sub_window(const microscope_sketch *sketch) {
+    return (sketch->reading - sketch->epoch) / sketch->length;
+}
+
+/*
+ * Raises the M of every code to the highest zoom that its cells hold, or may hold inside a crossing that comes now:
+ * closing an open shutter into a full pixel zooms out before the cell may zoom in again.
+ */
+static void raise_peaks(const struct counter *counter, uint64_t peaks[CODE_COUNT]) {
+    size_t pixel = sub_window(&counter->sketch) % (T + 2);
+    for (int code = 0; code < CODE_COUNT; code++) {
+        uint32_t key[ROWS];
+        columns_of(CODES[code], key);
+        for (size_t row = 0; row < ROWS; row++) {
+            const uint8_t *cell = cell_at(counter, row, key[row]);
+            microscope_number zoom = microscope_cell_zoom(cell, DEPTH, T, C);
+            microscope_number shutter = microscope_cell_shutter(cell, DEPTH, T, C);
+            accepted(zoom.number, "cell_zoom");
+            accepted(shutter.number, "cell_shutter");
+            uint64_t held = zoom.value + (shutter.value > 0 && cell[pixel] == 255);
+            peaks[code] = held > peaks[code] ? held : peaks[code];
+        }
+    }
+}
+
+static void go_on(struct counter *counter, microscope_answer answer, const char *call) {
+    accepted(answer.number, call);
+    counter->sketch = answer.sketch;
+}
+
+static void count(struct counter *counter, uint64_t peaks[CODE_COUNT]) {
+    for (int event = 0; event < EVENT_COUNT; event++) {
+        uint32_t key[ROWS];
+        columns_of(CODES[TRACE[event].code], key);
+        for (int time = 0; time < TRACE[event].times; time++) {
+            go_on(counter,
+                  microscope_update_at(counter->sketch, key, ROWS, TRACE[event].second, counter->grid, GRID_BYTES),
+                  "update_at");
+            raise_peaks(counter, peaks);
+        }
+    }
+    go_on(counter, microscope_advance_to(counter->sketch, READING_AT, counter->grid, GRID_BYTES), "advance_to");
+    raise_peaks(counter, peaks);
+}
+
+/*
+ * How far Over may be from the exact count: (2k - 1) x (c^M - 1), k being the sub-windows it adds up. It holds from a
+ * fresh start on, without merges, while M is below microscope_base_max_zoom(C).
+ */
+static uint64_t band(const microscope_sketch *sketch, uint64_t peak) {
+    uint64_t n = sub_window(sketch);
+    uint64_t k = (n < T ? n : T) + 1;
+    uint64_t unit = 1;
+    for (uint64_t level = 0; level < peak; level++) {
+        unit *= C;
+    }
+    return (2 * k - 1) * (unit - 1);
+}
+
+static void print_figures(const struct counter *counter, const uint64_t peaks[CODE_COUNT]) {
+    for (int code = 0; code < CODE_COUNT; code++) {
+        uint32_t key[ROWS];
+        columns_of(CODES[code], key);
+        microscope_reading r = microscope_estimate(counter->sketch, key, ROWS, counter->grid, GRID_BYTES);
+        microscope_number mean = microscope_mean(counter->sketch, key, ROWS, counter->grid, GRID_BYTES);
+        accepted(r.number, "estimate");
+        accepted(mean.number, "mean");
+        printf("%s  over %4" PRIu64 "  under %4" PRIu64 "  linear %8.3f  a minute %3" PRIu64 "  M %" PRIu64
+               "  band %" PRIu64 "\n",
+               CODES[code], r.over_items, r.under_items, r.linear, mean.value, peaks[code],
+               band(&counter->sketch, peaks[code]));
+    }
+}
+
+static void write_store(const char *path, const struct counter *counter) {
+    static uint8_t store[STORE_BYTES];
+    microscope_number length = microscope_store_length(counter->sketch);
+    accepted(length.number, "store_length");
+    accepted(microscope_save(store, length.value, counter->sketch, counter->grid, GRID_BYTES).number, "save");
+    FILE *file = fopen(path, "wb");
+    if (file == NULL || fwrite(store, 1, length.value, file) != length.value || fclose(file) != 0) {
+        perror(path);
+        exit(1);
+    }
+    printf("saved: %" PRIu64 " bytes\n", length.value);
+}
+
+static size_t read_store(const char *path, uint8_t store[STORE_BYTES]) {
+    FILE *file = fopen(path, "rb");
+    if (file == NULL) {
+        perror(path);
+        exit(1);
+    }
+    size_t length = fread(store, 1, STORE_BYTES, file);
+    fclose(file);
+    return length;
+}
+
+int main(int argc, char **argv) {
+    static struct counter counter, again;
+    static uint8_t store[STORE_BYTES];
+    uint64_t peaks[CODE_COUNT] = {0};
+    if (argc != 2) {
+        fprintf(stderr, "faults STORE\n");
+        return 1;
+    }
+
+    go_on(&counter,
+          microscope_new(ROWS, COLS, T, C, MICROSCOPE_TIME, MINUTE, EPOCH, SEED, counter.grid, GRID_BYTES), "new");
+    count(&counter, peaks);
+    printf("minute %" PRIu64 "\n", sub_window(&counter.sketch));
+    print_figures(&counter, peaks);
+
+    write_store(argv[1], &counter);
+    size_t length = read_store(argv[1], store);
+    go_on(&again, microscope_load(again.grid, GRID_BYTES, store, length), "load");
+    print_figures(&again, peaks);
+
+    store[700] ^= 1;
+    printf("one bit changed: refused by %" PRIu64 "\n",
+           microscope_load(again.grid, GRID_BYTES, store, length).number);
+    return 0;
+}

@@ -1,0 +1,327 @@
+/*
+ * MicroScope counting core: how often did a key come inside a sliding window?
+ *
+ * Link with target/libmicroscope.a (tools/build_library makes it); it needs memcpy and memset and nothing else.
+ * docs/EDGE.md says what is proved of these calls and what is not.
+ *
+ * THE IDEA. A sketch is rows x cols cells. A key is one column for each row, so one cell in each row; how a key
+ * becomes columns (a hash) is the caller's. The window is t sub-windows and the part of one more that has not left it
+ * yet; a sub-window is a number of items, or a span of time in the unit of the caller's time stamps. A cell has t + 2
+ * pixels of one byte and a zoom Z: a pixel is worth c^Z items. A pixel that would pass 255 raises Z.
+ *
+ * WHO OWNS WHAT. All memory is the caller's. The library allocates nothing, keeps nothing between calls and has no
+ * variables of its own, so calls on different sketches may run at the same time; calls on one sketch may not, unless
+ * all of them only read. A sketch is 64 bytes that go in and come out by value, and a grid of bytes that is lent for
+ * the length of a call. A call that may change the sketch gives the sketch to go on with: keep it, with its grid, in
+ * place of the old one.
+ *
+ * LENDING. Bytes and columns are lent as an address and a length, in that order; lengths of bytes are in bytes, the
+ * length of a key is in columns. The address must not be NULL, not even with length 0, and all of the length must be
+ * there (writable, if the pointer is not to const). What a call writes must not overlap with anything else it is
+ * lent: to merge a sketch with itself, lend a copy of its grid. Columns must be aligned as uint32_t is; bytes need no
+ * alignment. Within these rules there is no argument on which a call fails to answer: any sketch, any bytes, any
+ * numbers.
+ *
+ * STACK. A merge takes about 17 KB of stack, of which 16 are its table of sums; every other call less than 4 KB.
+ * (Seen in the machine code, not proved.)
+ *
+ * REFUSALS. Every answer carries a number: 0 if the call was accepted, else why it was refused, and then every byte
+ * lent is as it was. If more than one number applies it is the lowest (a load has an order of its own: see there).
+ */
+#ifndef MICROSCOPE_H
+#define MICROSCOPE_H
+
+#include <stddef.h>
+#include <stdint.h>
+
+#ifdef __cplusplus
+extern "C" {
+#endif
+
+/* The numbers. */
+enum {
+    MICROSCOPE_ACCEPTED = 0,
+    MICROSCOPE_T = 1,            /* t is not 1 to 4,096 */
+    MICROSCOPE_C = 2,            /* c is not 2 to 256 */
+    MICROSCOPE_LENGTH = 3,       /* the length of a sub-window is not 1 to 2^53, or the clock's kind is neither 0 nor 1 */
+    MICROSCOPE_DIMENSIONS = 4,   /* rows is 0, cols is no power of two from 2 to 65,536, or rows x log2(cols) passes 128 */
+    MICROSCOPE_STATE = 5,        /* the random state is 0: no call leaves it so */
+    MICROSCOPE_BYTES = 6,        /* a cell lent is not depth bytes, or a grid not rows x cols x depth */
+    MICROSCOPE_COLUMNS = 7,      /* not one column a row, or one that is not below cols; a row or column out of range */
+    MICROSCOPE_CLOCK_KIND = 8,   /* a call for the other kind of clock */
+    MICROSCOPE_CROSSED = 9,      /* 0 < crossed < t + 2, and crossed is above new_n */
+    MICROSCOPE_SHAPES = 10,      /* merge: rows, cols, t or c differ */
+    MICROSCOPE_FRAMES = 11,      /* merge: the clocks' kind, length or epoch differ */
+    MICROSCOPE_SUB_WINDOWS = 12, /* merge: the sub-windows reached differ */
+    MICROSCOPE_FRACTION = 13,    /* the given fraction is NaN or not within 0 and 1, and there is an oldest sub-window */
+    MICROSCOPE_UNSOUND = 14,     /* an unsound cell; `index` is row x cols + column of it, and 0 in a call on one cell */
+    MICROSCOPE_DIVISOR = 15,     /* a divisor of 0: the core's own calls only, none below gives it */
+    MICROSCOPE_STORE_LENGTH = 16, /* a store is not the exact length */
+    MICROSCOPE_BLOCK = 17,       /* a block's check or number: the store is damaged */
+    MICROSCOPE_FORM = 18         /* not a store of this form: the form's number, the clock's kind, or a byte that must be 0 */
+};
+
+/* Kinds of clock. */
+enum {
+    MICROSCOPE_ITEMS = 0, /* a sub-window is `length` items */
+    MICROSCOPE_TIME = 1   /* a sub-window is `length` units of time */
+};
+
+/*
+ * A sketch. microscope_new and microscope_load make one; the caller may read it, and copy it together with its grid.
+ * The sub-window reached, n, is reading / length for a clock of items, and for one of time (reading - epoch) / length,
+ * or 0 if reading is before epoch; rounded down.
+ */
+typedef struct {
+    size_t rows;
+    size_t cols;
+    size_t t;         /* sub-windows in the window */
+    uint32_t c;       /* the zoom's base */
+    uint32_t kind;    /* MICROSCOPE_ITEMS or MICROSCOPE_TIME */
+    uint64_t length;  /* of a sub-window: items, or units of time */
+    uint64_t epoch;   /* when sub-window 0 began; looked at for a clock of time only, 0 comes out for one of items */
+    uint64_t reading; /* items seen, or the latest time stamp */
+    uint64_t state;   /* the random state, never 0 */
+} microscope_sketch;
+
+/* What a call that may change the sketch gives. */
+typedef struct {
+    uint64_t number;
+    size_t index;             /* with 14, else 0 */
+    uint64_t draws;           /* random draws that the call made */
+    microscope_sketch sketch; /* to go on with; as it came if refused */
+} microscope_answer;
+
+/*
+ * One reading of a key, in items; all 0 if refused. `under` counts the t latest sub-windows, the one that is filling
+ * among them; `over` also the one before these, of which a part has left the window; `linear` counts that one by
+ * `fraction`. `over_items` and `under_items` are the same as whole numbers, below 2^53, so that the figures are exact.
+ */
+typedef struct {
+    uint64_t number;
+    size_t index;
+    double over;
+    double under;
+    double linear;
+    double fraction;
+    uint64_t over_items;
+    uint64_t under_items;
+} microscope_reading;
+
+/* A whole number; 0 if refused. */
+typedef struct {
+    uint64_t number;
+    size_t index;
+    uint64_t value;
+} microscope_number;
+
+/* A figure; 0.0 if refused. */
+typedef struct {
+    uint64_t number;
+    size_t index;
+    double value;
+} microscope_figure;
+
+typedef struct {
+    uint64_t number;
+    size_t index;
+} microscope_verdict;
+
+/* What an audit found: `unsound` is 1 and `index` names an unsound cell, or both are 0. */
+typedef struct {
+    uint64_t number;
+    uint64_t unsound;
+    size_t index;
+} microscope_found;
+
+/* What a call that may change one cell gives. */
+typedef struct {
+    uint64_t number;
+    size_t index;
+    uint64_t draws; /* random draws that the call made */
+    uint64_t state; /* the random state to go on with; as it came if refused */
+} microscope_drawn;
+
+/* ---- a sketch ---- */
+
+/*
+ * A fresh sketch of these settings. The grid must have rows x cols x microscope_depth(t, c) bytes; every one is
+ * written 0. Any seed will do: the same seed and calls give the same bytes. `epoch` is for a clock of time only.
+ * If refused the sketch is all 0.
+ */
+microscope_answer microscope_new(size_t rows, size_t cols, size_t t, uint32_t c, uint32_t kind, uint64_t length,
+                                 uint64_t epoch, uint64_t seed, uint8_t *grid, size_t grid_bytes);
+
+/* One item, on a clock of items. Every `length` items the whole grid is gone through. */
+microscope_answer microscope_update(microscope_sketch sketch, const uint32_t *key, size_t columns, uint8_t *grid,
+                                    size_t grid_bytes);
+
+/*
+ * One item at this time, on a clock of time. A time stamp older than the latest counts as the latest. Where it enters
+ * a later sub-window the whole grid is gone through.
+ */
+microscope_answer microscope_update_at(microscope_sketch sketch, const uint32_t *key, size_t columns,
+                                       uint64_t timestamp, uint8_t *grid, size_t grid_bytes);
+
+/* Time passes without an item: before a reading of a key that has gone quiet. */
+microscope_answer microscope_advance_to(microscope_sketch sketch, uint64_t timestamp, uint8_t *grid,
+                                        size_t grid_bytes);
+
+/*
+ * The figures of a key, with the clock's own fraction: 1 at the start of a sub-window, falling towards 0 as it fills.
+ */
+microscope_reading microscope_estimate(microscope_sketch sketch, const uint32_t *key, size_t columns,
+                                       const uint8_t *grid, size_t grid_bytes);
+
+/* The same with this fraction, 0 to 1. */
+microscope_reading microscope_estimate_with(microscope_sketch sketch, const uint32_t *key, size_t columns,
+                                            double fraction, const uint8_t *grid, size_t grid_bytes);
+
+/* Items a sub-window: `under` divided by t, rounded down. */
+microscope_number microscope_mean(microscope_sketch sketch, const uint32_t *key, size_t columns, const uint8_t *grid,
+                                  size_t grid_bytes);
+
+/*
+ * Whether there is a cell at this row and column. Its bytes are the depth bytes of the grid from
+ * (row x cols + col) x depth on.
+ */
+microscope_verdict microscope_bucket_check(microscope_sketch sketch, size_t row, size_t col, const uint8_t *grid,
+                                           size_t grid_bytes);
+
+/*
+ * The highest zoom that any cell has now. A sketch that never left 0 has counted each item by itself: its figures are
+ * exact, but for keys that share cells.
+ */
+microscope_number microscope_max_zoom(microscope_sketch sketch, const uint8_t *grid, size_t grid_bytes);
+
+/* Whether every cell is sound. Those of a fresh sketch are, and no call makes a sound cell unsound. */
+microscope_found microscope_audit(microscope_sketch sketch, const uint8_t *grid, size_t grid_bytes);
+
+/*
+ * Adds the other sketch's counts to this one's. The other is only read. Both must have the same settings and have
+ * reached the same sub-window. The reading stays this sketch's.
+ */
+microscope_answer microscope_merge(microscope_sketch sketch, uint8_t *grid, size_t grid_bytes, microscope_sketch other,
+                                   const uint8_t *other_grid, size_t other_grid_bytes);
+
+/* ---- a store: sketch and grid in a form that outlives the process (docs/STORE.md) ---- */
+
+/* How many bytes a sketch's store takes: a multiple of 512. */
+microscope_number microscope_store_length(microscope_sketch sketch);
+
+/* Writes the whole buffer, which must have exactly that length. */
+microscope_verdict microscope_save(uint8_t *store, size_t store_bytes, microscope_sketch sketch, const uint8_t *grid,
+                                   size_t grid_bytes);
+
+/*
+ * The sketch of a store, and its grid, whose length must be that of the stored one: for a store that was saved by
+ * another program, rows, cols, t and c stand in it as 4 bytes each, low byte first, at 8, 12, 16 and 20.
+ * The numbers are tried in this order: 16 (empty, or no multiple of 512), 17, 18, 1 to 5, 16 (not the exact length),
+ * 18 (behind the grid), 6, 14. If refused the sketch is all 0.
+ */
+microscope_answer microscope_load(uint8_t *grid, size_t grid_bytes, const uint8_t *store, size_t store_bytes);
+
+/* ---- one cell, for teaching and test: t + 2 pixels, the zoom, the shutter (4 bytes, low byte first), pad bytes ---- */
+
+/* How many bytes a cell takes: t + 7, rounded up to a multiple of 4. */
+microscope_number microscope_depth(size_t t, uint32_t c);
+
+/* The largest zoom z of a base: c^z is at most 2^32 - 1. */
+microscope_number microscope_base_max_zoom(uint32_t c);
+
+/* Whether a cell is sound: its zoom at most the largest, its shutter below c^Z. */
+microscope_verdict microscope_cell_check(const uint8_t *cell, size_t cell_bytes, size_t t, uint32_t c);
+
+microscope_number microscope_cell_zoom(const uint8_t *cell, size_t cell_bytes, size_t t, uint32_t c);
+
+/* The shutter: items counted since a pixel was last credited. */
+microscope_number microscope_cell_shutter(const uint8_t *cell, size_t cell_bytes, size_t t, uint32_t c);
+
+/* The items that a cell counts for sub-window n: the pixel n mod (t + 2), times c^Z. */
+microscope_figure microscope_cell_scaled_pixel(const uint8_t *cell, size_t cell_bytes, size_t t, uint32_t c,
+                                               uint64_t n);
+
+/* Records an item of sub-window n. */
+microscope_drawn microscope_cell_insert(uint8_t *cell, size_t cell_bytes, size_t t, uint32_t c, uint64_t n,
+                                        uint64_t state);
+
+/* Moves a cell into sub-window new_n, which is `crossed` sub-windows on. */
+microscope_drawn microscope_cell_enter_sub_window(uint8_t *cell, size_t cell_bytes, size_t t, uint32_t c,
+                                                  uint64_t new_n, uint64_t crossed, uint64_t state);
+
+/* Adds the counts of src to those of dst, both being in sub-window n. src is only read. */
+microscope_drawn microscope_cell_merge(uint8_t *dst, size_t dst_bytes, const uint8_t *src, size_t src_bytes, size_t t,
+                                       uint32_t c, uint64_t n, uint64_t state);
+
+/* ---- the layouts that the library was compiled with (x86-64) ---- */
+
+#if defined(__cplusplus)
+#define MICROSCOPE_ASSERT(fact) static_assert(fact, #fact)
+#else
+#define MICROSCOPE_ASSERT(fact) _Static_assert(fact, #fact)
+#endif
+#define MICROSCOPE_AT(type, field, at) MICROSCOPE_ASSERT(offsetof(type, field) == (at))
+
+MICROSCOPE_ASSERT(sizeof(size_t) == 8);
+MICROSCOPE_ASSERT(sizeof(double) == 8);
+
+MICROSCOPE_ASSERT(sizeof(microscope_sketch) == 64);
+MICROSCOPE_AT(microscope_sketch, rows, 0);
+MICROSCOPE_AT(microscope_sketch, cols, 8);
+MICROSCOPE_AT(microscope_sketch, t, 16);
+MICROSCOPE_AT(microscope_sketch, c, 24);
+MICROSCOPE_AT(microscope_sketch, kind, 28);
+MICROSCOPE_AT(microscope_sketch, length, 32);
+MICROSCOPE_AT(microscope_sketch, epoch, 40);
+MICROSCOPE_AT(microscope_sketch, reading, 48);
+MICROSCOPE_AT(microscope_sketch, state, 56);
+
+MICROSCOPE_ASSERT(sizeof(microscope_answer) == 88);
+MICROSCOPE_AT(microscope_answer, number, 0);
+MICROSCOPE_AT(microscope_answer, index, 8);
+MICROSCOPE_AT(microscope_answer, draws, 16);
+MICROSCOPE_AT(microscope_answer, sketch, 24);
+
+MICROSCOPE_ASSERT(sizeof(microscope_reading) == 64);
+MICROSCOPE_AT(microscope_reading, number, 0);
+MICROSCOPE_AT(microscope_reading, index, 8);
+MICROSCOPE_AT(microscope_reading, over, 16);
+MICROSCOPE_AT(microscope_reading, under, 24);
+MICROSCOPE_AT(microscope_reading, linear, 32);
+MICROSCOPE_AT(microscope_reading, fraction, 40);
+MICROSCOPE_AT(microscope_reading, over_items, 48);
+MICROSCOPE_AT(microscope_reading, under_items, 56);
+
+MICROSCOPE_ASSERT(sizeof(microscope_number) == 24);
+MICROSCOPE_AT(microscope_number, number, 0);
+MICROSCOPE_AT(microscope_number, index, 8);
+MICROSCOPE_AT(microscope_number, value, 16);
+
+MICROSCOPE_ASSERT(sizeof(microscope_figure) == 24);
+MICROSCOPE_AT(microscope_figure, number, 0);
+MICROSCOPE_AT(microscope_figure, index, 8);
+MICROSCOPE_AT(microscope_figure, value, 16);
+
+MICROSCOPE_ASSERT(sizeof(microscope_verdict) == 16);
+MICROSCOPE_AT(microscope_verdict, number, 0);
+MICROSCOPE_AT(microscope_verdict, index, 8);
+
+MICROSCOPE_ASSERT(sizeof(microscope_found) == 24);
+MICROSCOPE_AT(microscope_found, number, 0);
+MICROSCOPE_AT(microscope_found, unsound, 8);
+MICROSCOPE_AT(microscope_found, index, 16);
+
+MICROSCOPE_ASSERT(sizeof(microscope_drawn) == 32);
+MICROSCOPE_AT(microscope_drawn, number, 0);
+MICROSCOPE_AT(microscope_drawn, index, 8);
+MICROSCOPE_AT(microscope_drawn, draws, 16);
+MICROSCOPE_AT(microscope_drawn, state, 24);
+
+#undef MICROSCOPE_AT
+#undef MICROSCOPE_ASSERT
+
+#ifdef __cplusplus
+}
+#endif
+
+#endif
