@@ -3,7 +3,7 @@
 //!     against_the_rust [--seed N] [--calls N]
 //!
 //! A fresh seed each run, printed, unless one is given. The published files are found through the links that
-//! oracle/build makes, with the stand-ins of oracle/src around them (docs/ORACLE.md).
+//! oracle/tree makes, with the stand-ins of oracle/src around them (docs/ORACLE.md).
 
 #![forbid(unsafe_code)]
 
