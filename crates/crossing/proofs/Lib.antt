@@ -1,3 +1,4 @@
 pub mod CrossingLoops
 pub mod CrossingCases
+pub mod FlatLaws
 pub mod CrossingCalls

@@ -17,7 +17,7 @@ ghost use Prim.Native.Nat.{_+_, _-_, _*_, _%_, _^_, _<_, _≤_};
 ghost use lib.ListN.{length, replicate};
 ghost use Rattle.laws.specs.Steps.{still};
 ghost use Rattle.refusal.specs.Refusals.{refuse};
-ghost use Rattle.cell.specs.Cell.{pixelsOf, pixelsIn, depthOf, slotOf, soundOf};
+ghost use Rattle.cell.specs.Cell.{pixelsOf, pixelsIn, depthOf, slotOf, zoomOf, soundOf};
 ghost use Rattle.cell.specs.Crossing.{closeOf, clearOf, emptied, insideOf, ceilingOf, allAtMost, timesEach, zoomedIn, zoomInOf, crossOf};
 ghost use Rattle.cell.specs.Refusals.{cellOutcome, crossCall};
 ghost use Rattle.cell.specs.Workers.{Fit, Judged, stepOf};
@@ -113,10 +113,37 @@ pub fn enter_sub_window(
     ensures { λ r. ⌜ stepOf (now (cell .exit)) r ≡ crossOf t c n crossed (now (cell .entry)) state ⌝ }
     ensures { λ r. ⌜ r .draws ≤ t + 3 ⌝ }
 {
-    let shutter = layout::shutter(&cell[..], t);
     let zoom = layout::zoom(&cell[..], t);
+    if zoom == 0 {
+        if 0 < crossed {
+            if crossed < (layout::pixels(t) as u64) {
+                return enter_flat(cell, t, c, n, crossed, slot, state);
+            }
+        }
+    }
+    let shutter = layout::shutter(&cell[..], t);
     let unit = power::unit(c, zoom);
     enter_from(cell, t, c, n, crossed, slot, shutter, unit, state)
+}
+
+// Most cells have zoom 0: then the shutter is empty and there is nothing to round and nowhere to zoom in.
+fn enter_flat(
+    cell: &mut [u8],
+    t: usize,
+    c: u32,
+    n: u64,
+    crossed: u64,
+    slot: usize,
+    state: u64,
+) -> Drawn
+    requires { ⌜ Fit t c (length (now cell)) × (soundOf t c (now cell) ≡ true) × (zoomOf t (now cell) ≡ 0) ⌝ }
+    requires { ⌜ (0 < crossed) × (crossed < pixelsOf t) × (crossed ≤ n) × (slot ≡ slotOf t (n - crossed)) ⌝ }
+    ensures { λ r. ⌜ stepOf (now (cell .exit)) r ≡ crossOf t c n crossed (now (cell .entry)) state ⌝ }
+    ensures { λ r. ⌜ r .draws ≤ t + 3 ⌝ }
+{
+    layout::set_shutter(cell, t, 0);
+    clear(cell, t, slot, n - crossed, crossed);
+    Drawn { state, draws: 0 }
 }
 
 // The pixel of the sub-window that ends. A far jump, which may lead from before sub-window 0, has none and asks for none.

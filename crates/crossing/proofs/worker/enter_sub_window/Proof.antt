@@ -5,17 +5,14 @@ use borrow.Author.Needs.{needs}
 use Rattle.crossing.proofs.worker.enter_sub_window.Statement.{statement}
 use Rattle.crossing.proofs.worker.enter_sub_window.Tie as tie
 
-shutter-requires : tie.Need-shutter-requires
-shutter-requires c κs = search needs
-
 zoom-requires : tie.Need-zoom-requires
 zoom-requires c κs = search needs
 
-unit-requires : tie.Need-unit-requires
-unit-requires c κs = (search needs, search needs, search (unit-fits, needs))
+pixels-requires : tie.Need-pixels-requires
+pixels-requires c κs = search needs
 
-enter-from-requires : tie.Need-enter-from-requires
-enter-from-requires c κs = ((search (judged-read, needs), search (slot-in, needs)), (λ h. search needs, λ h. search needs))
+enter-flat-requires : tie.Need-enter-flat-requires
+enter-flat-requires c κs = ((search needs, search needs, search needs), (search needs, search needs, search needs, search needs))
 
 same-length : tie.Need-same-length
 same-length c = search needs
@@ -23,13 +20,32 @@ same-length c = search needs
 returns : tie.Need-returns
 returns c = search needs
 
+shutter-requires : tie.Need-shutter-requires
+shutter-requires c κs = search needs
+
+unit-requires : tie.Need-unit-requires
+unit-requires c κs = (search needs, search needs, search (unit-fits, needs))
+
+enter-from-requires : tie.Need-enter-from-requires
+enter-from-requires c κs = ((search (judged-read, needs), search (slot-in, needs)), (λ h. search needs, λ h. search needs))
+
+same-length-2 : tie.Need-same-length-2
+same-length-2 c = search needs
+
+returns-2 : tie.Need-returns-2
+returns-2 c = search needs
+
 pub enter-sub-window-spec : {M : Type 1} → statement M
 enter-sub-window-spec =
     tie.close
     (tie.spec
-    shutter-requires
     zoom-requires
+    pixels-requires
+    enter-flat-requires
+    same-length
+    returns
+    shutter-requires
     unit-requires
     enter-from-requires
-    same-length
-    returns)
+    same-length-2
+    returns-2)
