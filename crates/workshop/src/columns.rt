@@ -1,0 +1,70 @@
+// A key: its columns, one for each row, parted by commas. The tallest sketch has 128 rows.
+use crate::numbers;
+use crate::numbers::Found;
+use crate::words;
+
+struct Progress {
+    // Where the next column starts.
+    at: usize,
+    count: usize,
+    good: bool,
+    more: bool,
+}
+
+fn narrow(value: u64) -> u32 {
+    (value % 0x1_0000_0000) as u32
+}
+
+fn put(key: &mut [u32], at: usize, found: Found) -> bool {
+    let Found::Value(column) = found else {
+        return false;
+    };
+    if at < key.len() {
+        key[at] = narrow(column);
+        return true;
+    }
+    false
+}
+
+fn next(word: &[u8], key: &mut [u32], taken: Progress) -> Progress {
+    let end = words::find(word, taken.at, word.len(), b',');
+    let found = numbers::at_most(words::part(word, taken.at, end), 0xFFFF_FFFF);
+    let good = put(key, taken.count, found);
+    let more = good && end < word.len();
+    Progress {
+        at: std::num::wrapping_add_usize(end, 1),
+        count: std::num::wrapping_add_usize(taken.count, 1),
+        good,
+        more,
+    }
+}
+
+// The columns of a word into `key`, and how many they are; 0 if the word is no list of columns, or of too many.
+pub fn taken(word: &[u8], key: &mut [u32]) -> usize {
+    let mut taken = Progress {
+        at: 0,
+        count: 0,
+        good: true,
+        more: true,
+    };
+    let mut left: usize = key.len();
+    while left > 0 && taken.more {
+        taken = next(word, key, taken);
+        left -= 1;
+    }
+    if taken.more {
+        return 0;
+    }
+    if taken.good {
+        return taken.count;
+    }
+    0
+}
+
+// The first columns of the lent ones.
+pub fn first(key: &[u32], count: usize) -> &[u32] {
+    if key.len() < count {
+        return &key[0..0];
+    }
+    &key[0..count]
+}

@@ -1,0 +1,98 @@
+// An f64 by its bits, in and out, and to three places for people.
+
+// The bits by which every NaN goes here.
+const NAN: u64 = 0x7FF8_0000_0000_0000;
+
+const SIGN: u64 = 0x8000_0000_0000_0000;
+
+const INFINITY: u64 = 0x7FF0_0000_0000_0000;
+
+const HIDDEN: u64 = 0x0010_0000_0000_0000;
+
+// A whole number and the thousandths beside it.
+pub struct Places {
+    pub whole: u64,
+    pub thousandths: u64,
+}
+
+// Only a NaN is neither.
+pub fn bits(x: f64) -> u64 {
+    if x >= 0.0 {
+        return f64::to_bits(x);
+    }
+    if x < 0.0 {
+        return f64::to_bits(x);
+    }
+    NAN
+}
+
+fn not_a_number() -> f64 {
+    let zero = 0.0;
+    zero / zero
+}
+
+// The f64 of any bits. Which NaN it is is open in Rattle, so a NaN's bits give one that is computed.
+pub fn of_bits(bits: u64) -> f64 {
+    if bits % SIGN > INFINITY {
+        return not_a_number();
+    }
+    f64::from_bits(bits)
+}
+
+fn carried(whole: u64, thousandths: u64) -> Places {
+    if thousandths < 1000 {
+        return Places { whole, thousandths };
+    }
+    Places {
+        whole: std::num::wrapping_add_u64(whole, 1),
+        thousandths: 0,
+    }
+}
+
+// 1000 = 1024 - 16 - 8; no bit is lost, as the number is below 2^53.
+fn thousandfold(n: u64) -> u64 {
+    std::num::wrapping_sub_u64(std::num::wrapping_sub_u64(n << 10, n << 4), n << 3)
+}
+
+// digits / 2^shift, to the nearest thousandth.
+fn divided(digits: u64, shift: u64) -> Places {
+    if shift < 1 {
+        return Places {
+            whole: digits,
+            thousandths: 0,
+        };
+    }
+    if shift > 63 {
+        return Places {
+            whole: 0,
+            thousandths: 0,
+        };
+    }
+    let whole = digits >> shift;
+    let rest = std::num::wrapping_sub_u64(digits, whole << shift);
+    let half = 1u64 << (shift - 1);
+    carried(
+        whole,
+        std::num::wrapping_add_u64(thousandfold(rest), half) >> shift,
+    )
+}
+
+// A figure is never negative and below 2^54, so its last digit is worth 2 at most.
+pub fn in_places(x: f64) -> Places {
+    let pattern = bits(x);
+    let exponent = pattern % SIGN / HIDDEN;
+    if exponent < 1 {
+        return Places {
+            whole: 0,
+            thousandths: 0,
+        };
+    }
+    let digits = pattern % HIDDEN + HIDDEN;
+    if exponent > 1075 {
+        return Places {
+            whole: digits << 1,
+            thousandths: 0,
+        };
+    }
+    divided(digits, 1075 - exponent)
+}

@@ -1,0 +1,96 @@
+// Words and numbers on standard output.
+use crate::words;
+use libc::STDOUT_FILENO;
+ghost use Prim.Native.Nat.{_≤_, _<_};
+
+pub fn text(words: &[u8]) {
+    io::write_all(STDOUT_FILENO, words);
+}
+
+// A number, and the words before it.
+pub fn number(before: &[u8], n: u64) {
+    text(before);
+    io::print_decimal(STDOUT_FILENO, n);
+}
+
+// The 16 digits of a number, and the words before it.
+pub fn hex(before: &[u8], n: u64) {
+    text(before);
+    io::print_hex(STDOUT_FILENO, n, 16);
+}
+
+fn put(line: &mut [u8], at: usize, text: &[u8]) -> usize {
+    let mut place = at;
+    let mut i: usize = 0;
+    while i < text.len() {
+        words::set(line, place, text[i]);
+        place = std::num::wrapping_add_usize(place, 1);
+        i += 1;
+    }
+    place
+}
+
+fn put_number(line: &mut [u8], at: usize, n: u64) -> usize {
+    let mut digits = [0u8; 20];
+    let count = io::decimal(n, &mut digits);
+    put(line, at, &digits[..count])
+}
+
+// The answer of a call that counts, by one call of the system: long traces have little else.
+pub fn counted(n: u64, draws: u64) {
+    let mut line = [0u8; 64];
+    let a = put(&mut line, 0, b"ok n=");
+    let b = put_number(&mut line, a, n);
+    let c = put(&mut line, b, b" draws=");
+    let d = put_number(&mut line, c, draws);
+    let e = put(&mut line, d, b"\n");
+    text(words::part(&line, 0, e));
+}
+
+fn glyph(half: u8) -> u8 {
+    if half < 10 {
+        return half + 48;
+    }
+    if half < 16 {
+        return half + 87;
+    }
+    b'?'
+}
+
+fn put_byte(line: &mut [u8], at: usize, byte: u8) {
+    words::set(line, at, glyph(byte / 16));
+    words::set(line, std::num::wrapping_add_usize(at, 1), glyph(byte % 16));
+}
+
+// At most 32 bytes.
+fn lot(bytes: &[u8]) {
+    let mut line = [0u8; 64];
+    let mut i: usize = 0;
+    let mut place: usize = 0;
+    while i < bytes.len() {
+        put_byte(&mut line, place, bytes[i]);
+        place = std::num::wrapping_add_usize(place, 2);
+        i += 1;
+    }
+    text(words::part(&line, 0, place));
+}
+
+fn lot_end(from: usize, length: usize) -> usize
+    requires { ⌜ from < length ⌝ }
+    ensures { λ r. ⌜ (from < r) × (r ≤ length) ⌝ }
+{
+    if length - from < 32 {
+        return length;
+    }
+    from + 32
+}
+
+// Bytes as hexadecimal digits, by lots of 32.
+pub fn bytes(bytes: &[u8]) {
+    let mut from: usize = 0;
+    while from < bytes.len() {
+        let to = lot_end(from, bytes.len());
+        lot(words::part(bytes, from, to));
+        from = to;
+    }
+}

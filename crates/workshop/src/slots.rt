@@ -1,0 +1,138 @@
+// The sketches a to d. The grid of each stands in its own quarter of one lent buffer.
+use crate::words;
+use clock::SubWindowClock;
+use microscope::MicroCm;
+ghost use Prim.Native.Nat.{_≤_};
+
+// The most bytes that a grid here may have.
+pub const LIMIT: usize = 1048576;
+
+// A sketch and the bytes of its grid: 0 where no sketch is.
+pub struct Slot {
+    pub sketch: MicroCm,
+    pub size: usize,
+}
+
+pub struct Shelf {
+    a: Slot,
+    b: Slot,
+    c: Slot,
+    d: Slot,
+}
+
+// The place of a sketch by its name; 4 for what is no name.
+pub fn place(word: &[u8]) -> usize {
+    if word.len() != 1 {
+        return 4;
+    }
+    let name = words::get(word, 0);
+    match name {
+        b'a' => 0,
+        b'b' => 1,
+        b'c' => 2,
+        b'd' => 3,
+        _ => 4,
+    }
+}
+
+// From where to where a grid stands among the grids.
+pub struct Span {
+    pub from: usize,
+    pub to: usize,
+}
+
+fn start(place: usize) -> usize {
+    match place {
+        0 => 0,
+        1 => LIMIT,
+        2 => 2 * LIMIT,
+        _ => 3 * LIMIT,
+    }
+}
+
+// Where a place's grid of so many bytes stands among grids of `length` bytes; nowhere if it did not fit, and then every call
+// would refuse it by 6.
+pub fn span_of(place: usize, size: usize, length: usize) -> Span
+    ensures { λ r. ⌜ (r .from ≤ r .to) × (r .to ≤ length) ⌝ }
+{
+    let from = start(place);
+    if length < from {
+        return Span { from: 0, to: 0 };
+    }
+    if length - from < size {
+        return Span { from: 0, to: 0 };
+    }
+    Span {
+        from,
+        to: from + size,
+    }
+}
+
+pub fn grid(grids: &[u8], place: usize, size: usize) -> &[u8] {
+    let span = span_of(place, size, grids.len());
+    words::part(grids, span.from, span.to)
+}
+
+// What a clock has seen, or its now.
+pub fn moment(clock: SubWindowClock) -> u64 {
+    match clock {
+        SubWindowClock::CountBased { seen, .. } => seen,
+        SubWindowClock::TimeBased { now, .. } => now,
+    }
+}
+
+// No bytes are no store: what comes of such a load is a sketch that every call refuses.
+fn empty() -> Slot {
+    let mut grid = [0u8; 1];
+    let bytes = [0u8; 1];
+    let answer = store::load(&mut grid[0..0], &bytes[0..0]);
+    let sketch = answer.sketch;
+    Slot { sketch, size: 0 }
+}
+
+impl Shelf {
+    pub fn new() -> Shelf {
+        Shelf {
+            a: empty(),
+            b: empty(),
+            c: empty(),
+            d: empty(),
+        }
+    }
+
+    pub fn get(self, place: usize) -> Slot {
+        match place {
+            0 => self.a,
+            1 => self.b,
+            2 => self.c,
+            3 => self.d,
+            _ => empty(),
+        }
+    }
+
+    pub fn with(self, place: usize, slot: Slot) -> Shelf {
+        let a = self.a;
+        let b = self.b;
+        let c = self.c;
+        let d = self.d;
+        match place {
+            0 => Shelf { a: slot, b, c, d },
+            1 => Shelf { a, b: slot, c, d },
+            2 => Shelf { a, b, c: slot, d },
+            3 => Shelf { a, b, c, d: slot },
+            _ => self,
+        }
+    }
+
+    // The same place and grid, with the sketch that a call gave back.
+    pub fn with_sketch(self, place: usize, sketch: MicroCm) -> Shelf {
+        let slot = self.get(place);
+        self.with(
+            place,
+            Slot {
+                sketch,
+                size: slot.size,
+            },
+        )
+    }
+}
