@@ -14,3 +14,4 @@ pub mod CellKept
 pub mod Facts
 pub mod Band
 pub mod Examples
+pub mod BandRead

@@ -60,7 +60,7 @@ module _ (S : Settings) (ok : AcceptedSettings S) (T : Tally) (σ : ℕ) (g : Li
   k = sketchOf S (T .clock) σ
 
   -- 1 to 6 never arise
-  sketch-pass : (rest : Verdict) → refuseSketch k g rest ≡ rest
+  pub sketch-pass : (rest : Verdict) → refuseSketch k g rest ≡ rest
   sketch-pass rest = settings-pass S ok (T .clock) (h .span) _ ∙ rw (ne-eqb σ 0 (h .good .alive), eq-eqb (length g) (gridBytes k) (h .good .whole)) refl
 
   -- 14 never arises

@@ -1,0 +1,65 @@
+-- Demand 3 as the reading tells it: after every list of calls the call that reads a key is accepted, and the Over figure that it answers is the one that the band bounds.
+use Prim.Native.Nat.{ℕ, suc, _<_}
+use mathlib.Core.Path.{_≡_, refl}
+use mathlib.Core.Bool.{true}
+use mathlib.Core.List.{List, [], _∷_}
+use lib.ListN.{length, getD}
+use native.Mathlib.Omega.{arith}
+use borrow.Author.Tests.{eq-eqb, lt-ltb}
+use Rattle.laws.specs.Within.{Within}
+use Rattle.refusal.specs.declared.Verdict.the-variants.{Accepted, Unsound}
+use Rattle.microscope.specs.declared.ReadingAnswer.{ReadingAnswer}
+use Rattle.microscope.specs.Sketch.{keyCells}
+use Rattle.microscope.specs.Refusals.{allBelow, keyFits, readVerdict, readCall}
+use Rattle.microscope.specs.Workers.{Judged}
+use Rattle.microscope.proofs.KeyLaws.{key-cells-below}
+use Rattle.microscope.proofs.ReadingLaws.{key-read}
+use Rattle.microscope.proofs.WorldLaws.{fits-key, none-unsound}
+use Rattle.band.specs.Calls.{Call, Settings}
+use Rattle.band.specs.Tally.{Tally, tally, exact}
+use Rattle.band.specs.Band.{AcceptedSettings, Key, NeverAtTop, after, covered, bandWidth, highestHeld, overAfter}
+use Rattle.band.proofs.Runs.{sketchOf}
+use Rattle.band.proofs.Reached.{Reached}
+use Rattle.band.proofs.RefusalLaws.{sketch-pass}
+use Rattle.band.proofs.Steps.{reached}
+use Rattle.band.proofs.Band.{band}
+
+each-below : (m : ℕ) (key : List ℕ) → ((row : ℕ) → row < length key → getD key row 0 < m) → allBelow m key ≡ true
+unfolding allBelow
+each-below m [] h = refl
+each-below m (x ∷ xs) h = rw (lt-ltb x m (h 0 (omega arith))) (each-below m xs (λ row l. h (suc row) (omega arith)))
+
+module _ (S : Settings) (ok : AcceptedSettings S) (key : List ℕ) (right : Key S key) where
+  module _ (T : Tally) (σ : ℕ) (g : List ℕ) (h : Reached S T σ g) where
+    fits : keyFits (sketchOf S (T .clock) σ) key ≡ true
+    unfolding keyFits
+    fits = simp (eq-eqb _ _ (right .each-row)) (each-below (S .cols) key (λ row l. right .each-low row (rw (right .each-row) at l)))
+
+    judged : Judged (sketchOf S (T .clock) σ) g (keyCells (sketchOf S (T .clock) σ) 0 key)
+    judged =
+        let k = sketchOf S (T .clock) σ in
+        none-unsound Unsound Accepted k g σ (h .good) (keyCells k 0 key) (key-cells-below k 0 key (fits-key k key fits))
+
+    reads : readVerdict (sketchOf S (T .clock) σ) key g ≡ Accepted
+    reads = key-read (sketchOf S (T .clock) σ) key g (sketch-pass S ok T σ g h Accepted) fits judged
+
+  module _ (seed : ℕ) (calls : List Call) where
+    abbrev answer : ReadingAnswer
+    answer = readCall (after S seed calls .sketch) key (after S seed calls .grid)
+
+    read-accepted : readVerdict (after S seed calls .sketch) key (after S seed calls .grid) ≡ Accepted
+    read-accepted =
+        let b = reached S ok seed calls in
+        rw (b .is) (reads (tally S calls) (b .state) (b .grid) (b .known))
+
+    pub answer-accepted : answer .verdict ≡ Accepted
+    unfolding readCall
+    answer-accepted = read-accepted
+
+    pub answer-over : answer .over ≡ overAfter S seed calls key
+    unfolding readCall
+    answer-over = rw read-accepted refl
+
+    pub band-as-read : NeverAtTop S seed calls key
+        → Within (bandWidth (covered S (tally S calls)) (S .params .c) (highestHeld S seed calls key)) (answer .over) (exact S (tally S calls) key)
+    band-as-read top = rw answer-over (band S ok seed calls key right top)
