@@ -1,17 +1,19 @@
 -- The ways out of a credit and of an insertion, in the form in which the code comes to them: each is a case of its definition. Assumes nothing.
 use Prim.Native.Nat.{ℕ, _+_, _^_, _≤_, _<_}
-use mathlib.Core.Path.{_≡_, refl, ap, _∙_}
+use mathlib.Core.Path.{_≡_, refl, sym, ap, _∙_}
+use mathlib.Core.Bool.{true}
 use mathlib.Core.List.{List, _++_}
-use lib.ListN.{take, drop, set}
+use lib.ListN.{length, take, drop, set}
+use native.Mathlib.Nat.{pow-zero}
 use native.Mathlib.Omega.{arith}
 use borrow.Author.Tests.{lt-ltb, le-ltb}
 use Rattle.laws.specs.Steps.{still}
 use Rattle.cell.specs.declared.Drawn.{Drawn}
-use Rattle.cell.specs.Cell.{pixelsOf, slotOf, pixelOf, zoomOf, shutterOf, unitOf, withPixel, withZoom, withShutter, maxZoom}
+use Rattle.cell.specs.Cell.{pixelsOf, slotOf, pixelOf, zoomOf, shutterOf, unitOf, withPixel, withZoom, withShutter, maxZoom, soundOf}
 use Rattle.cell.specs.Insertion.{divideEach, pixelStep, zoomOutOf, creditOf, insertOf}
-use Rattle.cell.specs.Workers.{Judged, stepOf}
-use Rattle.cell.proofs.CellLaws.{slot-inside, with-zoom-pixels}
-use Rattle.cell.proofs.SoundLaws.{sound-unit}
+use Rattle.cell.specs.Workers.{Fit, Judged, stepOf}
+use Rattle.cell.proofs.CellLaws.{slot-inside, with-zoom-pixels, with-shutter-none}
+use Rattle.cell.proofs.SoundLaws.{sound-flat, sound-unit}
 
 module _ (t c slot : ℕ) (b : List ℕ) (σ : ℕ) where
   pub credit-gained : pixelOf b slot < 255 → still (withPixel slot (pixelOf b slot + 1) b) σ ≡ creditOf t c slot b σ
@@ -45,6 +47,14 @@ module _ (t c n : ℕ) (b : List ℕ) (σ s unit : ℕ) (shutter : s ≡ shutter
   insert-credits l l' slot r h el es e =
       let h' : unitOf t c b ≤ shutterOf t b + 1 = rw (← shutter, ← worth) h in
       e ∙ rw (el, es) (simp (le-ltb _ _ h'))
+
+-- at zoom 0 every item is a unit for the pixel
+pub insert-flat : (t c n : ℕ) (b : List ℕ) (σ : ℕ) → Fit t c (length b) → soundOf t c b ≡ true → (z : ℕ) → z ≡ zoomOf t b → z ≡ 0
+    → (slot : ℕ) (l : List ℕ) (r : Drawn) → slot ≡ slotOf t n → stepOf l r ≡ creditOf t c slot b σ → stepOf l r ≡ insertOf t c n b σ
+insert-flat t c n b σ fit sound z zoom flat slot l r es e =
+    let none : shutterOf t b ≡ 0 = sound-flat t c b sound (sym zoom ∙ flat) in
+    let one : 1 ≡ unitOf t c b = rw (← zoom, flat) (sym (pow-zero c)) in
+    insert-credits t c n b σ 0 1 (sym none) one b l slot r (omega arith) (sym (with-shutter-none t b (fit .size-is) none)) es e
 
 pub next-shutter-fits : (t c : ℕ) (b : List ℕ) (s unit : ℕ) → Judged t c b s unit → s + 1 < unit → s + 1 < 2 ^ 32
 next-shutter-fits t c b s unit j h = omega (arith, j .unit-is, sound-unit t c b (j .sound) (j .fit .c-low))

@@ -5,7 +5,7 @@ use mathlib.Core.Bool.{Bool, true, false, cond, _&&_}
 use mathlib.Core.List.{List}
 use lib.Dec.{leb, ltb}
 use lib.ListN.{length}
-use native.Mathlib.Nat.{one-le-pow}
+use native.Mathlib.Nat.{pow-zero, one-le-pow}
 use native.Mathlib.Omega.{arith}
 use borrow.Author.Tests.{le-leb, lt-ltb, le-ltb, leb-true, ltb-true}
 use Rattle.laws.proofs.ChoiceLaws.{both-hold}
@@ -32,6 +32,12 @@ module _ (t c : ℕ) (b : List ℕ) where
 
     pub sound-shutter : shutterOf t b < unitOf t c b
     sound-shutter = ltb-true _ _ (tests .1)
+
+    -- at zoom 0 a unit is one item: the shutter holds none
+    pub sound-flat : zoomOf t b ≡ 0 → shutterOf t b ≡ 0
+    sound-flat flat =
+        let one : unitOf t c b ≡ 1 = rw flat (pow-zero c) in
+        omega (arith, sound-shutter)
 
     pub sound-unit : 2 ≤ c → unitOf t c b ≤ 2 ^ 32 - 1
     sound-unit base = zoom-fits c base (zoomOf t b) sound-zoom

@@ -106,14 +106,17 @@ pub fn insert_judged(
     credit_pixel(cell, t, c, slot, state)
 }
 
-// An item of sub-window n.
+// An item of sub-window n. Most cells have zoom 0: then the shutter is empty, and an item is a unit for the pixel.
 pub fn insert(cell: &mut [u8], t: usize, c: u32, n: u64, slot: usize, state: u64) -> Drawn
     requires { ⌜ Fit t c (length (now cell)) × (soundOf t c (now cell) ≡ true) × (slot ≡ slotOf t n) ⌝ }
     ensures { λ r. ⌜ stepOf (now (cell .exit)) r ≡ insertOf t c n (now (cell .entry)) state ⌝ }
     ensures { λ r. ⌜ r .draws ≤ t + 2 ⌝ }
 {
-    let shutter = layout::shutter(&cell[..], t);
     let zoom = layout::zoom(&cell[..], t);
+    if zoom == 0 {
+        return credit_pixel(cell, t, c, slot, state);
+    }
+    let shutter = layout::shutter(&cell[..], t);
     let unit = power::unit(c, zoom);
     insert_judged(cell, t, c, n, slot, shutter, unit, state)
 }

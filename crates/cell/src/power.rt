@@ -4,11 +4,14 @@ ghost use Prim.Native.Nat.{_-_, _^_, _≤_};
 ghost use Rattle.cell.specs.Cell.{maxZoom};
 ghost use Rattle.cell.specs.Workers.{unitOrZero};
 
-// c^z, which the caller knows to fit four bytes.
+// c^z, which the caller knows to fit four bytes. 2 is the usual base: its powers are spared the loop.
 pub fn unit(c: u32, z: u8) -> u64
     requires { ⌜ (2 ≤ c) × (c ≤ 256) × (c ^ z ≤ 2 ^ 32 - 1) ⌝ }
     ensures { λ r. ⌜ r ≡ c ^ z ⌝ }
 {
+    if c == 2 {
+        return 1 << z;
+    }
     let base = c as u64;
     let mut power: u64 = 1;
     let mut i: u8 = 0;
@@ -24,6 +27,12 @@ pub fn unit_or_zero(c: u32, z: u8) -> u64
     requires { ⌜ (2 ≤ c) × (c ≤ 256) ⌝ }
     ensures { λ r. ⌜ r ≡ unitOrZero c z ⌝ }
 {
+    if c == 2 {
+        if z <= 31 {
+            return unit(2, z);
+        }
+        return 0;
+    }
     let base = c as u64;
     let mut power: u64 = 1;
     let mut i: u8 = 0;

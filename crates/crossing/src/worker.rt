@@ -141,7 +141,6 @@ fn enter_flat(
     ensures { λ r. ⌜ stepOf (now (cell .exit)) r ≡ crossOf t c n crossed (now (cell .entry)) state ⌝ }
     ensures { λ r. ⌜ r .draws ≤ t + 3 ⌝ }
 {
-    layout::set_shutter(cell, t, 0);
     clear(cell, t, slot, n - crossed, crossed);
     Drawn { state, draws: 0 }
 }

@@ -1,14 +1,25 @@
--- `insertion::insert`: a sound cell has a unit that fits, and its fields are read as `insert_judged` wants them. Assumes nothing.
+-- `insertion::insert`: at zoom 0 an item is a unit; else a sound cell has a unit that fits, and its fields are read as `insert_judged` wants
+-- them. Assumes nothing.
+use Rattle.cell.proofs.InsertionCases.{insert-flat, slot-read}
 use Rattle.cell.proofs.SoundLaws.{unit-fits, judged-read}
 use borrow.Author.Needs.{needs}
 use Rattle.cell.proofs.insertion.insert.Statement.{statement}
 use Rattle.cell.proofs.insertion.insert.Tie as tie
 
-shutter-requires : tie.Need-shutter-requires
-shutter-requires c κs = search needs
-
 zoom-requires : tie.Need-zoom-requires
 zoom-requires c κs = search needs
+
+credit-pixel-requires : tie.Need-credit-pixel-requires
+credit-pixel-requires c κs = (search needs, search (slot-read, needs))
+
+same-length : tie.Need-same-length
+same-length c = search needs
+
+returns : tie.Need-returns
+returns c = (search (insert-flat, needs), search needs)
+
+shutter-requires : tie.Need-shutter-requires
+shutter-requires c κs = search needs
 
 unit-requires : tie.Need-unit-requires
 unit-requires c κs = (search needs, search needs, search (unit-fits, needs))
@@ -16,19 +27,22 @@ unit-requires c κs = (search needs, search needs, search (unit-fits, needs))
 insert-judged-requires : tie.Need-insert-judged-requires
 insert-judged-requires c κs = (search (judged-read, needs), search needs)
 
-same-length : tie.Need-same-length
-same-length c = search needs
+same-length-2 : tie.Need-same-length-2
+same-length-2 c = search needs
 
-returns : tie.Need-returns
-returns c = search needs
+returns-2 : tie.Need-returns-2
+returns-2 c = search needs
 
 pub insert-spec : {M : Type 1} → statement M
 insert-spec =
     tie.close
     (tie.spec
-    shutter-requires
     zoom-requires
+    credit-pixel-requires
+    same-length
+    returns
+    shutter-requires
     unit-requires
     insert-judged-requires
-    same-length
-    returns)
+    same-length-2
+    returns-2)

@@ -4,9 +4,6 @@ use borrow.Author.Needs.{needs}
 use Rattle.crossing.proofs.worker.enter_flat.Statement.{statement}
 use Rattle.crossing.proofs.worker.enter_flat.Tie as tie
 
-set-shutter-requires : tie.Need-set-shutter-requires
-set-shutter-requires c κs = search needs
-
 sub-clear : tie.Need-sub-clear
 sub-clear c = search needs
 
@@ -20,5 +17,4 @@ returns : tie.Need-returns
 returns c = (search (flat-crossed, needs), search needs)
 
 pub enter-flat-spec : {M : Type 1} → statement M
-enter-flat-spec =
-    tie.close (tie.spec set-shutter-requires sub-clear clear-requires same-length returns)
+enter-flat-spec = tie.close (tie.spec sub-clear clear-requires same-length returns)
