@@ -27,7 +27,7 @@ pub extern "C" fn microscope_depth(t: usize, c: u32) -> PlainNumber
 pub extern "C" fn microscope_base_max_zoom(c: u32) -> PlainNumber
     ensures { λ r. ⌜ r ≡ zoomOf (maxZoomCall c) ⌝ }
 {
-    let answer = cell::max_zoom(c);
+    let answer = cell_reading::max_zoom(c);
     let verdict = answer.verdict;
     plain::value(verdict, answer.zoom as u64)
 }
@@ -37,7 +37,7 @@ pub extern "C" fn microscope_base_max_zoom(c: u32) -> PlainNumber
 pub extern "C" fn microscope_cell_check(cell: &[u8], t: usize, c: u32) -> PlainVerdict
     ensures { λ r. ⌜ r ≡ verdictOf (cellVerdict (paramsOf t c) (now (cell .entry))) ⌝ }
 {
-    let verdict = cell::judge(cell, MicroParams { t, c });
+    let verdict = cell_reading::judge(cell, MicroParams { t, c });
     plain::told(verdict)
 }
 
@@ -45,7 +45,7 @@ pub extern "C" fn microscope_cell_check(cell: &[u8], t: usize, c: u32) -> PlainV
 pub extern "C" fn microscope_cell_zoom(cell: &[u8], t: usize, c: u32) -> PlainNumber
     ensures { λ r. ⌜ r ≡ zoomOf (zoomCall (paramsOf t c) (now (cell .entry))) ⌝ }
 {
-    let answer = cell::zoom(cell, MicroParams { t, c });
+    let answer = cell_reading::zoom(cell, MicroParams { t, c });
     let verdict = answer.verdict;
     plain::value(verdict, answer.zoom as u64)
 }
@@ -54,7 +54,7 @@ pub extern "C" fn microscope_cell_zoom(cell: &[u8], t: usize, c: u32) -> PlainNu
 pub extern "C" fn microscope_cell_shutter(cell: &[u8], t: usize, c: u32) -> PlainNumber
     ensures { λ r. ⌜ r ≡ shutterOf (shutterCall (paramsOf t c) (now (cell .entry))) ⌝ }
 {
-    let answer = cell::shutter(cell, MicroParams { t, c });
+    let answer = cell_reading::shutter(cell, MicroParams { t, c });
     let verdict = answer.verdict;
     plain::value(verdict, answer.shutter as u64)
 }
@@ -64,7 +64,7 @@ pub extern "C" fn microscope_cell_shutter(cell: &[u8], t: usize, c: u32) -> Plai
 pub extern "C" fn microscope_cell_scaled_pixel(cell: &[u8], t: usize, c: u32, n: u64) -> PlainFigure
     ensures { λ r. ⌜ r ≡ pixelOf (pixelCall (paramsOf t c) n (now (cell .entry))) ⌝ }
 {
-    let answer = cell::scaled_pixel(cell, MicroParams { t, c }, n);
+    let answer = cell_reading::scaled_pixel(cell, MicroParams { t, c }, n);
     let verdict = answer.verdict;
     plain::figure(verdict, answer.items)
 }
@@ -80,7 +80,7 @@ pub extern "C" fn microscope_cell_insert(
 ) -> PlainDrawn
     ensures { λ r. ⌜ plainCell r (now (cell .exit)) ≡ cellOf (insertCall (paramsOf t c) n (now (cell .entry)) state) ⌝ }
 {
-    let answer = cell::insert(cell, MicroParams { t, c }, n, Rounding { state });
+    let answer = insertion::insert(cell, MicroParams { t, c }, n, Rounding { state });
     plain::drawn(answer)
 }
 

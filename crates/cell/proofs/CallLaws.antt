@@ -1,34 +1,21 @@
--- The ways out of the public calls, in the form in which the code comes to them: turned back by the verdict, or accepted and done. Assumes nothing.
-use Prim.Native.Nat.{ℕ, _*_, _-_, _^_, _≤_, _<_}
+-- The ways out of the calls, in the form in which the code comes to them: turned back by the verdict, or accepted and done. Assumes nothing.
+use Prim.Native.Nat.{ℕ, _≤_}
 use mathlib.Core.Path.{_≡_, refl, sym, ap, _∙_}
 use mathlib.Core.Bool.{Bool, true, false, not, true≢false}
 use mathlib.Core.List.{List}
-use lib.ListN.{length}
-use lib.Dec.{T}
-use lib.IntN.{pos}
-use lib.Ieee.{binary64, ofBits, inFloat}
-use native.Mathlib.Omega.{arith}
-use native.Mathlib.Nat.{mul-le-mul}
-use Rattle.laws.specs.Figure.{figure}
 use Rattle.laws.specs.Steps.{Step}
-use Rattle.laws.proofs.FigureLaws.{castable, zero-is}
 use Rattle.refusal.specs.declared.Verdict.{Verdict}
 use Rattle.refusal.specs.declared.Verdict.the-variants.{Accepted, Refused, Unsound}
 use Rattle.refusal.specs.Refusals.{isAccepted}
-use Rattle.refusal.proofs.VerdictLaws.{refused-leaves, not-refused, inside-range}
+use Rattle.refusal.proofs.VerdictLaws.{refused-leaves}
 use Rattle.rounding.specs.declared.Rounding.{Rounding}
 use Rattle.cell.specs.declared.MicroParams.{MicroParams}
 use Rattle.cell.specs.declared.MicroLayout.{MicroLayout}
 use Rattle.cell.specs.declared.CellAnswer.{CellAnswer}
 use Rattle.cell.specs.declared.Drawn.{Drawn}
-use Rattle.cell.specs.declared.Held.{Held}
-use Rattle.cell.specs.Cell.{depthOf, slotOf, pixelOf, zoomOf, shutterOf, unitOf, maxZoom}
-use Rattle.cell.specs.Insertion.{insertOf}
-use Rattle.cell.specs.Refusals.{paramsVerdict, layoutOf, noLayout, layoutCall, maxZoomVerdict, maxZoomCall, zoomCall, shutterCall, pixelCall, cellOutcome, cellCall, insertCall}
-use Rattle.cell.specs.Workers.{Judged, HeldOf, turnedBack, doneWith, stepOf}
+use Rattle.cell.specs.Refusals.{paramsVerdict, layoutOf, noLayout, layoutCall, cellOutcome, cellCall}
+use Rattle.cell.specs.Workers.{turnedBack, doneWith, stepOf}
 use Rattle.cell.proofs.JudgingLaws.{turned-back, let-pass, settled-t, settled-c}
-use Rattle.cell.proofs.InsertionCases.{slot-read}
-use Rattle.cell.proofs.SoundLaws.{sound-unit}
 
 -- SETTINGS
 module _ (p : MicroParams) (v : Verdict) (judged : v ≡ paramsVerdict p) (ok : Bool) (asked : ok ≡ isAccepted v) where
@@ -46,84 +33,6 @@ module _ (p : MicroParams) (v : Verdict) (judged : v ≡ paramsVerdict p) (ok : 
     pub layout-done : (l : MicroLayout) → l ≡ layoutOf p → record { verdict = v; layout = l } ≡ layoutCall p
     unfolding layoutCall
     layout-done l e = rw (← judged, let-pass v ok asked h, e) refl
-
-module _ (c : ℕ) (v : Verdict) (judged : v ≡ maxZoomVerdict c) (ok : Bool) (asked : ok ≡ isAccepted v) where
-  pub max-zoom-turned : not ok ≡ true → record { verdict = v; zoom = 0 } ≡ maxZoomCall c
-  unfolding maxZoomCall
-  max-zoom-turned h = rw (← judged, refused-leaves v (maxZoom c) 0 (turned-back v ok asked h)) refl
-
-  module _ (h : not ok ≡ false) where
-    base-inside : (2 ≤ c) × (c ≤ 256)
-    base-inside = inside-range 2 256 c (not-refused 2 _ Accepted (sym judged ∙ let-pass v ok asked h) .0)
-
-    pub base-low : 2 ≤ c
-    base-low = base-inside .0
-
-    pub base-high : c ≤ 256
-    base-high = base-inside .1
-
-    pub max-zoom-done : (z : ℕ) → z ≡ maxZoom c → record { verdict = v; zoom = z } ≡ maxZoomCall c
-    unfolding maxZoomCall
-    max-zoom-done z e = rw (← judged, let-pass v ok asked h, e) refl
-
--- READING A CELL: a reading brings the state 1, by which nothing is turned back
-module _ (p : MicroParams) (b : List ℕ) (r : Held) (held : HeldOf p b 1 r) (ok : Bool) (asked : ok ≡ isAccepted (r .verdict)) where
-  module _ (h : not ok ≡ true) where
-    pub zoom-turned : record { verdict = r .verdict; zoom = 0 } ≡ zoomCall p b
-    unfolding zoomCall
-    zoom-turned = rw (← held .verdict-is, refused-leaves (r .verdict) (zoomOf (p .t) b) 0 (turned-back (r .verdict) ok asked h)) refl
-
-    pub shutter-turned : record { verdict = r .verdict; shutter = 0 } ≡ shutterCall p b
-    unfolding shutterCall
-    shutter-turned = rw (← held .verdict-is, refused-leaves (r .verdict) (shutterOf (p .t) b) 0 (turned-back (r .verdict) ok asked h)) refl
-
-    pub pixel-turned : (n : ℕ) → record { verdict = r .verdict; items = ofBits binary64 0 } ≡ pixelCall p n b
-    unfolding pixelCall
-    pixel-turned n = rw (← held .verdict-is, refused-leaves (r .verdict) (unitOf (p .t) (p .c) b * pixelOf b (slotOf (p .t) n)) 0 (turned-back (r .verdict) ok asked h), zero-is) refl
-
-  module _ (h : not ok ≡ false) where
-    accepted : r .verdict ≡ Accepted
-    accepted = let-pass (r .verdict) ok asked h
-
-    read : Judged (p .t) (p .c) b (r .shutter) (r .unit)
-    read = held .judged accepted
-
-    pub read-t : p .t ≤ 4096
-    read-t = read .fit .t-high
-
-    pub read-size : length b ≡ depthOf (p .t)
-    read-size = read .fit .size-is
-
-    pub zoom-done : (z : ℕ) → z ≡ zoomOf (p .t) b → record { verdict = r .verdict; zoom = z } ≡ zoomCall p b
-    unfolding zoomCall
-    zoom-done z e = rw (← held .verdict-is, accepted, e) refl
-
-    pub shutter-done : record { verdict = r .verdict; shutter = r .shutter } ≡ shutterCall p b
-    unfolding shutterCall
-    shutter-done = rw (← held .verdict-is, accepted, read .shutter-is) refl
-
-    module _ (n slot : ℕ) (here : slot ≡ slotOf (p .t) n) where
-      pub pixel-inside : slot < length b
-      pixel-inside = omega (arith, slot-read (p .t) n slot here, read .fit .size-is)
-
-      pub pixel-done : (pixel : ℕ) → pixel ≡ pixelOf b slot → record { verdict = r .verdict; items = figure (r .unit * pixel) } ≡ pixelCall p n b
-      unfolding pixelCall
-      pixel-done pixel e = rw (← held .verdict-is, accepted, e, here, read .unit-is) refl
-
-    -- a unit of four bytes times a byte
-    module _ (pixel : ℕ) (small : pixel < 256) where
-      items-short : r .unit * pixel < 2 ^ 40
-      items-short =
-          let u : r .unit ≤ 2 ^ 32 - 1 = rw (read .unit-is) (sound-unit (p .t) (p .c) b (read .sound) (read .fit .c-low)) in
-          let x : pixel ≤ 255 = omega arith in
-          let m : r .unit * pixel ≤ (2 ^ 32 - 1) * 255 = mul-le-mul u x in
-          omega arith
-
-      pub items-fit : r .unit * pixel < 2 ^ 64
-      items-fit = omega (arith, items-short)
-
-      pub items-exact : T (inFloat binary64 (pos (r .unit * pixel)))
-      items-exact = castable (r .unit * pixel) (omega (arith, items-short))
 
 -- CHANGING A CELL
 turned-outcome : (v : Verdict) (s : Step) (b : List ℕ) (ρ : Rounding) (a : CellAnswer) → isAccepted v ≡ false → a ≡ turnedBack v ρ → cellOutcome b a ≡ cellCall v s b (ρ .state)
@@ -144,19 +53,3 @@ module _ (v w : Verdict) (same : v ≡ w) (ok : Bool) (asked : ok ≡ isAccepted
 
   pub call-done : not ok ≡ false → (l : List ℕ) (d : Drawn) → stepOf l d ≡ s → a ≡ doneWith d → cellOutcome l a ≡ cellCall w s b (ρ .state)
   call-done h l d e q = done-outcome w s b (ρ .state) l d a (sym same ∙ let-pass v ok asked h) e q
-
-module _ (p : MicroParams) (n : ℕ) (b : List ℕ) (ρ : Rounding) (r : Held) (held : HeldOf p b (ρ .state) r) (ok : Bool) (asked : ok ≡ isAccepted (r .verdict)) where
-  pub insert-turned : not ok ≡ true → (a : CellAnswer) → a ≡ turnedBack (r .verdict) ρ → cellOutcome b a ≡ insertCall p n b (ρ .state)
-  unfolding insertCall
-  insert-turned h a e = call-turned (r .verdict) _ (held .verdict-is) ok asked (insertOf (p .t) (p .c) n b (ρ .state)) b ρ a h e
-
-  module _ (h : not ok ≡ false) where
-    pub insert-judged : Judged (p .t) (p .c) b (r .shutter) (r .unit)
-    insert-judged = held .judged (let-pass (r .verdict) ok asked h)
-
-    pub insert-few : p .t ≤ 4096
-    insert-few = insert-judged .fit .t-high
-
-    pub insert-done : (l : List ℕ) (d : Drawn) (a : CellAnswer) → stepOf l d ≡ insertOf (p .t) (p .c) n b (ρ .state) → a ≡ doneWith d → cellOutcome l a ≡ insertCall p n b (ρ .state)
-    unfolding insertCall
-    insert-done l d a e q = call-done (r .verdict) _ (held .verdict-is) ok asked (insertOf (p .t) (p .c) n b (ρ .state)) b ρ a h l d e q

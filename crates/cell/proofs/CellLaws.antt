@@ -29,6 +29,9 @@ module _ (t : ℕ) where
   pub slot-inside : (n : ℕ) → slotOf t n < pixelsOf t
   slot-inside n = mod-lt n (omega arith)
 
+  pub slot-read : (n slot : ℕ) → slot ≡ slotOf t n → slot < pixelsOf t
+  slot-read n slot e = rw e (slot-inside n)
+
 -- the zoom, the shutter and the pads are read from the bytes behind the pixels
 module _ (t : ℕ) (a b : List ℕ) where
   behind-zoom : drop (t + 2) a ≡ drop (t + 2) b → zoomOf t a ≡ zoomOf t b

@@ -7,7 +7,7 @@ use lib.Dec.{ltb}
 use lib.ListN.{length, set, length-set}
 use lib.Seq.{length-take-le}
 use native.Mathlib.Omega.{arith}
-use borrow.Author.Tests.{ltb-true}
+use borrow.Author.Tests.{lt-ltb, ltb-true}
 use Rattle.laws.specs.Steps.{Step, still}
 use Rattle.laws.proofs.ChoiceLaws.{either}
 use Rattle.rounding.specs.Draws.{stateAfter}
@@ -82,6 +82,10 @@ module _ (t c slot : ℕ) (b : List ℕ) (σ : ℕ) (fit : Fit t c (length b)) w
   }
 
 -- CREDIT
+pub credit-gained : (t c slot : ℕ) (b : List ℕ) (σ : ℕ) → pixelOf b slot < 255 → still (withPixel slot (pixelOf b slot + 1) b) σ ≡ creditOf t c slot b σ
+unfolding creditOf
+credit-gained t c slot b σ h = simp (lt-ltb _ _ h)
+
 module _ (t c slot : ℕ) (b : List ℕ) (σ : ℕ) (fit : Fit t c (length b)) (inside : slot < pixelsOf t) where
   pub credited : Credited t c b σ (creditOf t c slot b σ)
   unfolding creditOf stateAfter

@@ -1,8 +1,6 @@
 pub mod BenchItems
 pub mod LayoutLaws
 pub mod PowerLaws
-pub mod DividingLaws
-pub mod InsertionCases
 pub mod SmallLaws
 pub mod CellLaws
 pub mod SoundLaws

@@ -16,7 +16,7 @@ use Rattle.cell.specs.Insertion.{creditOf, insertOf}
 use Rattle.cell.specs.Workers.{Fit}
 use Rattle.cell.proofs.CellLaws.{slot-inside, with-pixel-pixels, with-pixel-zoom, with-pixel-shutter, with-shutter-shutter, with-shutter-pixels, with-shutter-pixel, with-shutter-zoom, with-shutter-kept}
 use Rattle.cell.proofs.SoundLaws.{sound-shutter, sound-unit}
-use Rattle.cell.proofs.InsertionCases.{credit-gained}
+use Rattle.cell.proofs.InsertionLaws.{credit-gained}
 
 sum-more : (l : List ℕ) (i : ℕ) → i < length l → sumOf (set l i (getD l i 0 + 1)) ≡ sumOf l + 1
 unfolding sumOf

@@ -1,7 +1,7 @@
 -- What the workers rely on. The public calls have judged it; no public contract cites this file.
 use Prim.Native.Nat.{ℕ, _^_, _≤_}
 use mathlib.Core.Path.{_≡_}
-use mathlib.Core.Bool.{Bool, true, not, cond}
+use mathlib.Core.Bool.{true, not, cond}
 use mathlib.Core.List.{List}
 use lib.Dec.{leb, eqb}
 use lib.ListN.{length}
@@ -40,10 +40,6 @@ stepOf b r = record { bytes = b; state = r .state; draws = r .draws }
 -- c ^ z, and 0 where z is above max_zoom
 abbrev pub unitOrZero : ℕ → ℕ → ℕ
 unitOrZero c z = cond (leb z (maxZoom c)) (c ^ z) 0
-
--- what a pixel counts as when it is divided: the credited one has taken the unit that it has no room for
-abbrev pub counted : Bool → ℕ → ℕ
-counted credited pixel = cond credited 256 pixel
 
 -- what is told before a cell is read, `size` bytes of it: 1, 2, 5, 6; then the causes after these
 abbrev pub beforeCell : MicroParams → ℕ → ℕ → Verdict → Verdict

@@ -2,9 +2,8 @@
 //
 // A cell counts the items of t + 1 sub-windows in pixels of one byte. A pixel's unit is c^Z items, where the zoom Z is
 // shared by all of them; the shutter holds the items that do not make up a whole unit yet. The definitions of all that is
-// done to a cell stand here; crates crossing and merging have the code of the two longer calls.
+// done to a cell stand here, with what its calls share; crates cell_reading, insertion, crossing and merging have the calls.
 pub mod answer;
-pub mod insertion;
 pub mod judging;
 pub mod layout;
 pub mod power;
@@ -12,7 +11,7 @@ pub mod power;
 use refusal::Verdict;
 use rounding::Rounding;
 ghost use mathlib.Core.Path.{_≡_};
-ghost use Rattle.cell.specs.Refusals.{paramsCall, layoutCall, maxZoomCall, cellVerdict, zoomCall, shutterCall, pixelCall, cellOutcome, insertCall};
+ghost use Rattle.cell.specs.Refusals.{paramsCall, layoutCall};
 
 // The number of sub-windows of a window, and the zoom base.
 pub struct MicroParams {
@@ -79,9 +78,6 @@ pub struct Held {
     pub unit: u64,
 }
 
-// A call that only reads draws nothing, so no random state can turn it back.
-const ANY_STATE: u64 = 1;
-
 impl MicroParams {
     // t is 1 to 4,096, and c is 2 to 256.
     pub fn checked(t: usize, c: u32) -> ParamsAnswer
@@ -116,87 +112,4 @@ impl MicroLayout {
             layout: layout::derived(params),
         }
     }
-}
-
-// The largest zoom of a base.
-pub fn max_zoom(c: u32) -> ZoomAnswer
-    ensures { λ r. ⌜ r ≡ maxZoomCall c ⌝ }
-{
-    let verdict = judging::base(c);
-    if !verdict.accepted() {
-        return ZoomAnswer { verdict, zoom: 0 };
-    }
-    ZoomAnswer {
-        verdict,
-        zoom: power::max_zoom(c),
-    }
-}
-
-// Whether a cell is sound: its zoom at most max_zoom, its shutter below c^Z.
-pub fn judge(cell: &[u8], params: MicroParams) -> Verdict
-    ensures { λ r. ⌜ r ≡ cellVerdict params (now (cell .entry)) ⌝ }
-{
-    let held = judging::held(cell, params, ANY_STATE);
-    held.verdict
-}
-
-// A cell's zoom.
-pub fn zoom(cell: &[u8], params: MicroParams) -> ZoomAnswer
-    ensures { λ r. ⌜ r ≡ zoomCall params (now (cell .entry)) ⌝ }
-{
-    let held = judging::held(cell, params, ANY_STATE);
-    let verdict = held.verdict;
-    if !verdict.accepted() {
-        return ZoomAnswer { verdict, zoom: 0 };
-    }
-    ZoomAnswer {
-        verdict,
-        zoom: layout::zoom(cell, params.t),
-    }
-}
-
-// A cell's shutter.
-pub fn shutter(cell: &[u8], params: MicroParams) -> ShutterAnswer
-    ensures { λ r. ⌜ r ≡ shutterCall params (now (cell .entry)) ⌝ }
-{
-    let held = judging::held(cell, params, ANY_STATE);
-    let verdict = held.verdict;
-    if !verdict.accepted() {
-        return ShutterAnswer {
-            verdict,
-            shutter: 0,
-        };
-    }
-    ShutterAnswer {
-        verdict,
-        shutter: held.shutter,
-    }
-}
-
-// The items that a cell counts for sub-window n: the pixel times c^Z. The whole product is made f64, so it is exact.
-pub fn scaled_pixel(cell: &[u8], params: MicroParams, n: u64) -> PixelAnswer
-    ensures { λ r. ⌜ r ≡ pixelCall params n (now (cell .entry)) ⌝ }
-{
-    let held = judging::held(cell, params, ANY_STATE);
-    let verdict = held.verdict;
-    if !verdict.accepted() {
-        return PixelAnswer {
-            verdict,
-            items: 0.0,
-        };
-    }
-    let slot = layout::slot(params.t, n);
-    let pixel = layout::wide(cell[slot]);
-    PixelAnswer {
-        verdict,
-        items: (held.unit * (pixel as u64)) as f64,
-    }
-}
-
-// Records an item of sub-window n.
-pub fn insert(cell: &mut [u8], params: MicroParams, n: u64, rounding: Rounding) -> CellAnswer
-    ensures { λ r. ⌜ cellOutcome (now (cell .exit)) r ≡ insertCall params n (now (cell .entry)) (rounding .state) ⌝ }
-{
-    let held = judging::held(&cell[..], params, rounding.state);
-    insertion::insert_held(cell, params, n, held, rounding)
 }

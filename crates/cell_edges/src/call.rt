@@ -26,7 +26,7 @@ pub fn settings(t: usize, c: u32) {
     let verdict = checked.verdict;
     words::verdict(b": checked ", verdict);
     layout(params);
-    let top = cell::max_zoom(c);
+    let top = cell_reading::max_zoom(c);
     let top_verdict = top.verdict;
     words::verdict(b", max_zoom ", top_verdict);
     words::number(b" ", top.zoom as u64);
@@ -50,7 +50,7 @@ pub fn read(t: usize, c: u32, n: u64, cell: &[u8]) {
     words::settings(b"read", t, c);
     words::number(b" n ", n);
     words::cell(b"cell", cell);
-    let judged = cell::judge(cell, params);
+    let judged = cell_reading::judge(cell, params);
     words::verdict(b": judge ", judged);
     fields(cell, params);
     pixel(cell, params, n);
@@ -58,18 +58,18 @@ pub fn read(t: usize, c: u32, n: u64, cell: &[u8]) {
 }
 
 fn fields(cell: &[u8], params: MicroParams) {
-    let zoom = cell::zoom(cell, params);
+    let zoom = cell_reading::zoom(cell, params);
     let zoom_verdict = zoom.verdict;
     words::verdict(b", zoom ", zoom_verdict);
     words::number(b" ", zoom.zoom as u64);
-    let shutter = cell::shutter(cell, params);
+    let shutter = cell_reading::shutter(cell, params);
     let shutter_verdict = shutter.verdict;
     words::verdict(b", shutter ", shutter_verdict);
     words::number(b" ", shutter.shutter as u64);
 }
 
 fn pixel(cell: &[u8], params: MicroParams, n: u64) {
-    let answer = cell::scaled_pixel(cell, params, n);
+    let answer = cell_reading::scaled_pixel(cell, params, n);
     let verdict = answer.verdict;
     let bits = f64::to_bits(answer.items);
     words::verdict(b", scaled_pixel ", verdict);
@@ -132,7 +132,7 @@ fn perform(call: Change, cell: &mut [u8], src: &[u8]) -> CellAnswer {
     let params = call.params;
     let rounding = Rounding { state: call.state };
     match kind {
-        Kind::Insert => cell::insert(cell, params, call.n, rounding),
+        Kind::Insert => insertion::insert(cell, params, call.n, rounding),
         Kind::Enter(crossed) => {
             crossing::enter_sub_window(cell, params, call.n, crossed, rounding)
         }

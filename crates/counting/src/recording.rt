@@ -32,7 +32,7 @@ fn insert_at(
     let t = params.t;
     let start = grid::start_of(sketch, grid.len(), index);
     let end = start + cell::layout::depth(t);
-    cell::insertion::insert(&mut grid[start..end], t, params.c, n, slot, state)
+    insertion::worker::insert(&mut grid[start..end], t, params.c, n, slot, state)
 }
 
 // The key's cell of each row, in order.

@@ -6,7 +6,7 @@ use mathlib.Core.Bool.{Bool, true, false, not}
 use mathlib.Core.List.{List, _++_}
 use lib.ListN.{length, take, drop, replicate}
 use lib.Seq.{length-take-le}
-use native.Mathlib.Nat.{mod-lt, zero-div, zero-mod, one-le-pow}
+use native.Mathlib.Nat.{zero-div, zero-mod, one-le-pow}
 use native.Mathlib.Omega.{arith}
 use borrow.Author.Tests.{le-leb, lt-leb, eq-eqb, ne-eqb, not-true, not-false}
 use Rattle.laws.specs.Steps.{Step, still, leaving, later}
@@ -105,11 +105,6 @@ module _ (v u σ t k : ℕ) (d : Divided) (e : d ≡ roundedDiv v u σ) (h : k �
 
   pub credited-fits : t ≤ 4096 → d .draws + k < 2 ^ 32
   credited-fits r = omega (arith, credited-few)
-
-pub slot-in : (t x slot : ℕ) → slot ≡ slotOf t x → slot < pixelsOf t
-slot-in t x slot e =
-    let positive : 0 < pixelsOf t = omega arith in
-    rw e (mod-lt x positive)
 
 -- the pixel of the sub-window that ends
 module _ (t n crossed slot : ℕ) where

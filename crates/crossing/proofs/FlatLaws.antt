@@ -1,5 +1,5 @@
 -- A cell of zoom 0 has nothing in its shutter and can't zoom in: a crossing that is no far jump clears pixels and does nothing else.
-use Prim.Native.Nat.{ℕ, _+_, _-_, _≤_, _<_}
+use Prim.Native.Nat.{ℕ, _+_, _-_, _<_}
 use mathlib.Core.Path.{_≡_, refl, sym, _∙_}
 use mathlib.Core.Bool.{true}
 use mathlib.Core.List.{List}

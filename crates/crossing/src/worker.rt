@@ -4,7 +4,6 @@ use cell::Drawn;
 use cell::Held;
 use cell::MicroParams;
 use cell::answer;
-use cell::insertion;
 use cell::judging;
 use cell::layout;
 use cell::power;
@@ -13,7 +12,7 @@ use rounding::Rounding;
 ghost use mathlib.Core.Path.{_≡_};
 ghost use mathlib.Core.Bool.{true, _&&_};
 ghost use lib.Dec.{ltb};
-ghost use Prim.Native.Nat.{_+_, _-_, _*_, _%_, _^_, _<_, _≤_};
+ghost use Prim.Native.Nat.{_+_, _-_, _*_, _%_, _<_, _≤_};
 ghost use lib.ListN.{length, replicate};
 ghost use Rattle.laws.specs.Steps.{still};
 ghost use Rattle.refusal.specs.Refusals.{refuse};
@@ -253,7 +252,7 @@ fn close(
             draws: rounded.draws,
         };
     }
-    let credited = insertion::credit_pixel(cell, t, c, slot, rounded.state);
+    let credited = insertion::worker::credit_pixel(cell, t, c, slot, rounded.state);
     Drawn {
         state: credited.state,
         draws: rounded.draws + credited.draws,

@@ -51,7 +51,7 @@ fn slot_of(t: usize, n: u64) -> usize {
 
 fn sub_window(cell: &[u8], params: MicroParams, n: u64, unit: u64) {
     let pixel = words::get(cell, slot_of(params.t, n));
-    let answer = cell::scaled_pixel(cell, params, n);
+    let answer = cell_reading::scaled_pixel(cell, params, n);
     let items = floats::in_places(answer.items);
     print::number(b"  n=", n);
     print::number(b" pixel ", pixel as u64);
@@ -77,8 +77,8 @@ fn sub_windows(cell: &[u8], params: MicroParams, n: u64, unit: u64) {
 }
 
 fn draw(cell: &[u8], params: MicroParams, n: u64) {
-    let zoom = cell::zoom(cell, params);
-    let shutter = cell::shutter(cell, params);
+    let zoom = cell_reading::zoom(cell, params);
+    let shutter = cell_reading::shutter(cell, params);
     let unit = unit(params.c, zoom.zoom);
     print::number(b"ok n=", n);
     print::number(b" zoom=", zoom.zoom as u64);
@@ -112,7 +112,7 @@ fn draw_judged(sketch: MicroCm, row: usize, col: usize, grid: &[u8]) {
     let params = sketch.params;
     let clock = sketch.clock;
     let cell = microscope::bucket_slice(sketch, row, col, grid);
-    let verdict = cell::judge(cell, params);
+    let verdict = cell_reading::judge(cell, params);
     if !verdict.accepted() {
         unsound(sketch, row, col, cell);
         return;
@@ -147,7 +147,7 @@ pub fn one_cell(line: &[u8], sketch: MicroCm, grid: &[u8]) {
 // What a cell's place on the map shows: its zoom, and 99 if it is unsound.
 pub fn zoom_at(sketch: MicroCm, row: usize, col: usize, grid: &[u8]) -> u8 {
     let params = sketch.params;
-    let answer = cell::zoom(microscope::bucket_slice(sketch, row, col, grid), params);
+    let answer = cell_reading::zoom(microscope::bucket_slice(sketch, row, col, grid), params);
     let verdict = answer.verdict;
     if !verdict.accepted() {
         return 99;

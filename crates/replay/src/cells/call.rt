@@ -67,7 +67,7 @@ pub fn perform(call: Call, cell: &mut [u8], src: &[u8]) -> Answer {
     let params = call.params;
     let rounding = Rounding { state: call.state };
     match kind {
-        1 => changed(cell::insert(cell, params, call.n, rounding)),
+        1 => changed(insertion::insert(cell, params, call.n, rounding)),
         2 => changed(crossing::enter_sub_window(cell, params, call.n, call.crossed, rounding)),
         3 => changed(merging::merge_cells(cell, src, params, call.n, rounding)),
         4 => laid_out(params),
@@ -93,7 +93,7 @@ fn changed(answer: CellAnswer) -> Answer {
 
 fn laid_out(params: MicroParams) -> Answer {
     let answer = MicroLayout::new(params);
-    let top = cell::max_zoom(params.c);
+    let top = cell_reading::max_zoom(params.c);
     let verdict = answer.verdict;
     let top_verdict = top.verdict;
     Answer {
@@ -105,9 +105,9 @@ fn laid_out(params: MicroParams) -> Answer {
 }
 
 fn fields(cell: &[u8], params: MicroParams, n: u64) -> Answer {
-    let zoom = cell::zoom(cell, params);
-    let shutter = cell::shutter(cell, params);
-    let pixel = cell::scaled_pixel(cell, params, n);
+    let zoom = cell_reading::zoom(cell, params);
+    let shutter = cell_reading::shutter(cell, params);
+    let pixel = cell_reading::scaled_pixel(cell, params, n);
     let zoom_verdict = zoom.verdict;
     let shutter_verdict = shutter.verdict;
     let pixel_verdict = pixel.verdict;

@@ -1,6 +1,6 @@
 -- `enter_sub_window`: the shutter and the unit are read once, and a sound cell's unit fits. Assumes nothing.
+use Rattle.cell.proofs.CellLaws.{slot-read}
 use Rattle.cell.proofs.SoundLaws.{unit-fits, judged-read}
-use Rattle.crossing.proofs.CrossingCases.{slot-in}
 use borrow.Author.Needs.{needs}
 use Rattle.crossing.proofs.worker.enter_sub_window.Statement.{statement}
 use Rattle.crossing.proofs.worker.enter_sub_window.Tie as tie
@@ -27,7 +27,7 @@ unit-requires : tie.Need-unit-requires
 unit-requires c κs = (search needs, search needs, search (unit-fits, needs))
 
 enter-from-requires : tie.Need-enter-from-requires
-enter-from-requires c κs = ((search (judged-read, needs), search (slot-in, needs)), (λ h. search needs, λ h. search needs))
+enter-from-requires c κs = ((search (judged-read, needs), search (slot-read, needs)), (λ h. search needs, λ h. search needs))
 
 same-length-2 : tie.Need-same-length-2
 same-length-2 c = search needs

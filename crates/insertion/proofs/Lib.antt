@@ -1,0 +1,3 @@
+pub mod DividingLaws
+pub mod InsertionCases
+pub mod InsertionCalls
