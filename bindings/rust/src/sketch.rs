@@ -78,7 +78,12 @@ impl MicroCm {
 
     /// One item at this time, on a clock of time; an older time stamp counts as the latest. Gives the draws made.
     pub fn update_at(&mut self, key: &[u32], timestamp: u64) -> Result<u64, Error> {
-        told(calls::update_at_in_place(&mut self.sketch, key, timestamp, &mut self.grid))
+        told(calls::update_at_in_place(
+            &mut self.sketch,
+            key,
+            timestamp,
+            &mut self.grid,
+        ))
     }
 
     /// Time passes without an item: before reading a key that has gone quiet. Gives the draws made.
