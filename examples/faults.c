@@ -102,9 +102,11 @@ static void count(struct counter *counter, uint64_t peaks[CODE_COUNT]) {
         uint32_t key[ROWS];
         columns_of(CODES[TRACE[event].code], key);
         for (int time = 0; time < TRACE[event].times; time++) {
-            go_on(counter,
-                  microscope_update_at(counter->sketch, key, ROWS, TRACE[event].second, counter->grid, GRID_BYTES),
-                  "update_at");
+            microscope_sketch *sketch = &counter->sketch;
+            microscope_change change =
+                microscope_update_at_in_place(microscope_settings_of(sketch), &sketch->reading, &sketch->state, key,
+                                              ROWS, TRACE[event].second, counter->grid, GRID_BYTES);
+            accepted(change.number, "update_at_in_place");
             raise_peaks(counter, peaks);
         }
     }

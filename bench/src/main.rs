@@ -139,16 +139,22 @@ fn same(ours: &Ours, theirs: &Theirs) {
     assert_eq!(ours.sketch.state, reach::state(theirs), "the states differ");
 }
 
-fn updates(what: &str, shape: Shape, kind: Keys, calls: usize, aim: &str) {
+fn updates(what: &str, shape: Shape, kind: Keys, calls: usize, call: impl Fn(&mut Ours, &[u32]), aim: &str) {
     let keys = shape.keys(kind, calls);
     let (mut ours, mut theirs) = (shape.ours(false), shape.theirs(false));
     let figures = timed(
         calls as u64,
-        || clocked(|| keys.iter().for_each(|key| ours.update(&key.columns))),
+        || clocked(|| keys.iter().for_each(|key| call(&mut ours, &key.columns))),
         Some(&mut || clocked(|| keys.iter().for_each(|key| theirs.update(&key.packed)))),
     );
     same(&ours, &theirs);
     told(what, shape, figures, aim);
+}
+
+/// The sketch changed in its place, as the Rust's is, and the same by value.
+fn both_updates(keys: &str, shape: Shape, kind: Keys, calls: usize, aim: &str) {
+    updates(&format!("update in place, {keys}"), shape, kind, calls, Ours::update_in_place, aim);
+    updates(&format!("update by value, {keys}"), shape, kind, calls, Ours::update, aim);
 }
 
 /// A sketch of time, filled so that cells have zoomed.
@@ -235,9 +241,9 @@ fn main() {
     println!("| call | grid | ours, ns | the Rust, ns | ratio | aim |");
     println!("|---|---|---|---|---|---|");
     let shape = Shape { rows: 4, cols: 1024, t: 12, c: 2, length: 4096 };
-    updates("update, uniform keys", shape, Keys::Uniform, 200_000, "1.0");
-    updates("update, skewed keys", shape, Keys::Skewed, 200_000, "1.0");
-    updates("update, one key", shape, Keys::One, 200_000, "1.0");
+    both_updates("uniform keys", shape, Keys::Uniform, 200_000, "1.0");
+    both_updates("skewed keys", shape, Keys::Skewed, 200_000, "1.0");
+    both_updates("one key", shape, Keys::One, 200_000, "1.0");
     crossings("crossing", shape, "1.0");
     readings("reading", shape, "0.5");
     merges("merge", shape, "0.5");
@@ -246,7 +252,7 @@ fn main() {
         let shape = Shape { rows, cols, t, ..shape };
         // Fewer items for grids that cross slowly.
         let calls = if cols == 65536 { 20_000 } else { 100_000 };
-        updates("update, uniform keys", shape, Keys::Uniform, calls, "");
+        both_updates("uniform keys", shape, Keys::Uniform, calls, "");
         crossings("crossing", shape, "");
         readings("reading", shape, "");
         merges("merge", shape, "");

@@ -15,6 +15,25 @@ pub struct Sketch {
 }
 
 #[repr(C)]
+#[derive(Clone, Copy)]
+pub struct Settings {
+    pub rows: usize,
+    pub cols: usize,
+    pub t: usize,
+    pub c: u32,
+    pub kind: u32,
+    pub length: u64,
+    pub epoch: u64,
+}
+
+#[repr(C)]
+pub struct Change {
+    pub number: u64,
+    pub index: usize,
+    pub draws: u64,
+}
+
+#[repr(C)]
 pub struct Answer {
     pub number: u64,
     pub index: usize,
@@ -57,6 +76,7 @@ pub struct Audit {
 unsafe extern "C" {
     fn microscope_new(rows: usize, cols: usize, t: usize, c: u32, kind: u32, length: u64, epoch: u64, seed: u64, grid: *mut u8, size: usize) -> Answer;
     fn microscope_update(sketch: Sketch, key: *const u32, rows: usize, grid: *mut u8, size: usize) -> Answer;
+    fn microscope_update_in_place(settings: Settings, reading: *mut u64, state: *mut u64, key: *const u32, rows: usize, grid: *mut u8, size: usize) -> Change;
     fn microscope_advance_to(sketch: Sketch, timestamp: u64, grid: *mut u8, size: usize) -> Answer;
     fn microscope_estimate(sketch: Sketch, key: *const u32, rows: usize, grid: *const u8, size: usize) -> Reading;
     fn microscope_audit(sketch: Sketch, grid: *const u8, size: usize) -> Audit;
@@ -90,6 +110,16 @@ impl Ours {
         let answer = unsafe { microscope_update(self.sketch, key.as_ptr(), key.len(), self.grid.as_mut_ptr(), self.grid.len()) };
         accepted(answer.number);
         self.sketch = answer.sketch;
+    }
+
+    pub fn update_in_place(&mut self, key: &[u32]) {
+        let Sketch { rows, cols, t, c, kind, length, epoch, .. } = self.sketch;
+        let settings = Settings { rows, cols, t, c, kind, length, epoch };
+        let (reading, state) = (&mut self.sketch.reading, &mut self.sketch.state);
+        let change = unsafe {
+            microscope_update_in_place(settings, reading, state, key.as_ptr(), key.len(), self.grid.as_mut_ptr(), self.grid.len())
+        };
+        accepted(change.number);
     }
 
     pub fn advance_to(&mut self, timestamp: u64) {

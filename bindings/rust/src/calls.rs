@@ -3,7 +3,7 @@
 //! Why each is safe: a slice's address is never null, all of its length is there, and what is lent to be written
 //! overlaps with nothing. That is all that the calls ask for; they have an answer for every value of every argument.
 
-pub use crate::plain::{Answer, Audit, Drawn, Figure, Number, Reading, Sketch, Verdict};
+pub use crate::plain::{Answer, Audit, Change, Drawn, Figure, Number, Reading, Settings, Sketch, Verdict};
 
 mod library {
     use super::*;
@@ -39,6 +39,33 @@ mod library {
         ) -> Answer;
         pub unsafe fn microscope_advance_to(sketch: Sketch, timestamp: u64, grid: *mut u8, grid_bytes: usize)
         -> Answer;
+        pub unsafe fn microscope_update_in_place(
+            settings: Settings,
+            reading: *mut u64,
+            state: *mut u64,
+            key: *const u32,
+            columns: usize,
+            grid: *mut u8,
+            grid_bytes: usize,
+        ) -> Change;
+        pub unsafe fn microscope_update_at_in_place(
+            settings: Settings,
+            reading: *mut u64,
+            state: *mut u64,
+            key: *const u32,
+            columns: usize,
+            timestamp: u64,
+            grid: *mut u8,
+            grid_bytes: usize,
+        ) -> Change;
+        pub unsafe fn microscope_advance_to_in_place(
+            settings: Settings,
+            reading: *mut u64,
+            state: *mut u64,
+            timestamp: u64,
+            grid: *mut u8,
+            grid_bytes: usize,
+        ) -> Change;
         pub unsafe fn microscope_estimate(
             sketch: Sketch,
             key: *const u32,
@@ -181,6 +208,51 @@ pub fn update_at(sketch: Sketch, key: &[u32], timestamp: u64, grid: &mut [u8]) -
 /// Time passes without an item.
 pub fn advance_to(sketch: Sketch, timestamp: u64, grid: &mut [u8]) -> Answer {
     unsafe { library::microscope_advance_to(sketch, timestamp, grid.as_mut_ptr(), grid.len()) }
+}
+
+/// `update` on a sketch in its place.
+pub fn update_in_place(sketch: &mut Sketch, key: &[u32], grid: &mut [u8]) -> Change {
+    unsafe {
+        library::microscope_update_in_place(
+            sketch.settings(),
+            &mut sketch.reading,
+            &mut sketch.state,
+            key.as_ptr(),
+            key.len(),
+            grid.as_mut_ptr(),
+            grid.len(),
+        )
+    }
+}
+
+/// `update_at` on a sketch in its place.
+pub fn update_at_in_place(sketch: &mut Sketch, key: &[u32], timestamp: u64, grid: &mut [u8]) -> Change {
+    unsafe {
+        library::microscope_update_at_in_place(
+            sketch.settings(),
+            &mut sketch.reading,
+            &mut sketch.state,
+            key.as_ptr(),
+            key.len(),
+            timestamp,
+            grid.as_mut_ptr(),
+            grid.len(),
+        )
+    }
+}
+
+/// `advance_to` on a sketch in its place.
+pub fn advance_to_in_place(sketch: &mut Sketch, timestamp: u64, grid: &mut [u8]) -> Change {
+    unsafe {
+        library::microscope_advance_to_in_place(
+            sketch.settings(),
+            &mut sketch.reading,
+            &mut sketch.state,
+            timestamp,
+            grid.as_mut_ptr(),
+            grid.len(),
+        )
+    }
 }
 
 /// The figures of a key, with the clock's own fraction.

@@ -28,6 +28,41 @@ pub struct Sketch {
     pub state: u64,
 }
 
+/// What of a sketch no call changes.
+#[repr(C)]
+#[derive(Clone, Copy, Debug, PartialEq, Eq)]
+pub struct Settings {
+    /// Rows of the grid.
+    pub rows: usize,
+    /// Columns of the grid, a power of two.
+    pub cols: usize,
+    /// Sub-windows in the window.
+    pub t: usize,
+    /// The zoom's base.
+    pub c: u32,
+    /// 0 for a clock of items, 1 for one of time.
+    pub kind: u32,
+    /// Of a sub-window: items, or units of time.
+    pub length: u64,
+    /// When sub-window 0 began; 0 for a clock of items.
+    pub epoch: u64,
+}
+
+impl Sketch {
+    /// All but the reading and the random state.
+    pub fn settings(&self) -> Settings {
+        Settings {
+            rows: self.rows,
+            cols: self.cols,
+            t: self.t,
+            c: self.c,
+            kind: self.kind,
+            length: self.length,
+            epoch: self.epoch,
+        }
+    }
+}
+
 /// What a call that may change the sketch gives: the sketch to go on with, as it came if the call was refused.
 #[repr(C)]
 #[derive(Clone, Copy, Debug, PartialEq, Eq)]
@@ -40,6 +75,18 @@ pub struct Answer {
     pub draws: u64,
     /// The sketch to go on with.
     pub sketch: Sketch,
+}
+
+/// What a call tells that changes the reading and the random state in place; a refused one leaves both as they were.
+#[repr(C)]
+#[derive(Clone, Copy, Debug, PartialEq, Eq)]
+pub struct Change {
+    /// 0 if accepted.
+    pub number: u64,
+    /// With 14 the unsound cell.
+    pub index: usize,
+    /// Random draws that the call made.
+    pub draws: u64,
 }
 
 /// One reading of a key, in items; all 0 if refused.
@@ -136,6 +183,8 @@ macro_rules! layout {
 
 const _: () = assert!(size_of::<usize>() == 8);
 layout!(Sketch, 64, rows at 0, cols at 8, t at 16, c at 24, kind at 28, length at 32, epoch at 40, reading at 48, state at 56);
+layout!(Settings, 48, rows at 0, cols at 8, t at 16, c at 24, kind at 28, length at 32, epoch at 40);
+layout!(Change, 24, number at 0, index at 8, draws at 16);
 layout!(Answer, 88, number at 0, index at 8, draws at 16, sketch at 24);
 layout!(Reading, 64, number at 0, index at 8, over at 16, under at 24, linear at 32, fraction at 40, over_items at 48, under_items at 56);
 layout!(Number, 24, number at 0, index at 8, value at 16);

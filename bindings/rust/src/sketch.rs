@@ -2,7 +2,7 @@
 
 #![forbid(unsafe_code)]
 
-use crate::calls::{self, Answer, Sketch};
+use crate::calls::{self, Answer, Change, Sketch};
 use crate::{Error, SubWindowClock};
 
 /// The shape of a cell.
@@ -73,20 +73,22 @@ impl MicroCm {
 
     /// One item, on a clock of items. Gives the random draws made.
     pub fn update(&mut self, key: &[u32]) -> Result<u64, Error> {
-        let answer = calls::update(self.sketch, key, &mut self.grid);
-        self.go_on(answer)
+        told(calls::update_in_place(&mut self.sketch, key, &mut self.grid))
     }
 
     /// One item at this time, on a clock of time; an older time stamp counts as the latest. Gives the draws made.
     pub fn update_at(&mut self, key: &[u32], timestamp: u64) -> Result<u64, Error> {
-        let answer = calls::update_at(self.sketch, key, timestamp, &mut self.grid);
-        self.go_on(answer)
+        told(calls::update_at_in_place(
+            &mut self.sketch,
+            key,
+            timestamp,
+            &mut self.grid,
+        ))
     }
 
     /// Time passes without an item: before reading a key that has gone quiet. Gives the draws made.
     pub fn advance_to(&mut self, timestamp: u64) -> Result<u64, Error> {
-        let answer = calls::advance_to(self.sketch, timestamp, &mut self.grid);
-        self.go_on(answer)
+        told(calls::advance_to_in_place(&mut self.sketch, timestamp, &mut self.grid))
     }
 
     /// The figures of a key; `linear` is what the published `estimate` gives.
@@ -109,7 +111,9 @@ impl MicroCm {
     /// Adds the counts of another sketch of the same settings that has reached the same sub-window. Gives the draws.
     pub fn merge(&mut self, other: &Self) -> Result<u64, Error> {
         let answer = calls::merge(self.sketch, &mut self.grid, other.sketch, &other.grid);
-        self.go_on(answer)
+        Error::unless_accepted(answer.number, answer.index)?;
+        self.sketch = answer.sketch;
+        Ok(answer.draws)
     }
 
     /// The highest zoom that any cell has now.
@@ -236,12 +240,12 @@ impl MicroCm {
             grid,
         })
     }
+}
 
-    fn go_on(&mut self, answer: Answer) -> Result<u64, Error> {
-        Error::unless_accepted(answer.number, answer.index)?;
-        self.sketch = answer.sketch;
-        Ok(answer.draws)
-    }
+/// The draws of a change that was accepted.
+fn told(change: Change) -> Result<u64, Error> {
+    Error::unless_accepted(change.number, change.index)?;
+    Ok(change.draws)
 }
 
 /// A refusal, unless it is for the grid's length alone.

@@ -1,6 +1,6 @@
 -- A call at the edge is the core's call between two changes of form, so its outcome is the core's in the other form. Assumes nothing.
 use Prim.Native.Nat.{ℕ}
-use mathlib.Core.Path.{_≡_, ap, _∙_}
+use mathlib.Core.Path.{_≡_, refl, ap, _∙_}
 use mathlib.Core.List.{List}
 use lib.Ieee.{Float}
 use Rattle.refusal.specs.declared.Verdict.{Verdict}
@@ -23,6 +23,8 @@ use Rattle.store.specs.declared.LengthAnswer.{LengthAnswer}
 use Rattle.store.specs.declared.LoadAnswer.{LoadAnswer}
 use Rattle.store.specs.Refusals.{saveOutcome, loadOutcome, lengthCall, saveCall, loadCall}
 use Rattle.capi.specs.declared.PlainSketch.{PlainSketch}
+use Rattle.capi.specs.declared.PlainSettings.{PlainSettings}
+use Rattle.capi.specs.declared.PlainChange.{PlainChange}
 use Rattle.capi.specs.declared.PlainAnswer.{PlainAnswer}
 use Rattle.capi.specs.declared.PlainReading.{PlainReading}
 use Rattle.capi.specs.declared.PlainNumber.{PlainNumber}
@@ -30,28 +32,56 @@ use Rattle.capi.specs.declared.PlainFigure.{PlainFigure}
 use Rattle.capi.specs.declared.PlainVerdict.{PlainVerdict}
 use Rattle.capi.specs.declared.PlainAudit.{PlainAudit}
 use Rattle.capi.specs.declared.PlainDrawn.{PlainDrawn}
-use Rattle.capi.specs.Edge.{clockOf, sketchOf, paramsOf, noPlain, plainOutcome, outcomeOf, answerOf, readingOf, valueOf, figureOf, meanOf, highestOf, verdictOf, auditOf, storeLengthOf, plainSave, saveOf, loadAnswerOf, loadOf, depthOf, zoomOf, shutterOf, pixelOf, plainCell, cellOf, drawnOf}
+use Rattle.capi.specs.Edge.{clockOf, sketchOf, paramsOf, noPlain, settingsOf, sketchWith, readingAfter, stateAfter, toldOf, changedOf, changeOf, inPlace, plainOutcome, outcomeOf, answerOf, readingOf, valueOf, figureOf, meanOf, highestOf, verdictOf, auditOf, storeLengthOf, plainSave, saveOf, loadAnswerOf, loadOf, depthOf, zoomOf, shutterOf, pixelOf, plainCell, cellOf, drawnOf}
 
--- CALLS THAT MAY CHANGE THE SKETCH
-changed : (s : PlainSketch) (a : SketchAnswer) (g : List ℕ) (o : SketchOutcome) (r : PlainAnswer) → r ≡ answerOf s a → sketchOutcome a g ≡ o → plainOutcome r g ≡ outcomeOf s o
-changed s a g o r er e = rw er (ap (outcomeOf s) e)
-
+-- A FRESH START
 pub fresh-told : (none : PlainSketch) (clock : SubWindowClock) (rows cols t c kind length epoch seed : ℕ) (a : SketchAnswer) (l g : List ℕ) (r : PlainAnswer) → none ≡ noPlain → clock ≡ clockOf kind length epoch epoch
     → sketchOutcome a l ≡ freshCall rows cols (paramsOf t c) clock seed g → r ≡ answerOf none a → plainOutcome r l ≡ outcomeOf noPlain (freshCall rows cols (paramsOf t c) (clockOf kind length epoch epoch) seed g)
-fresh-told none clock rows cols t c kind length epoch seed a l g r en ec e er = changed noPlain a l (freshCall rows cols (paramsOf t c) (clockOf kind length epoch epoch) seed g) r (er ∙ rw en) (e ∙ rw ec)
+fresh-told none clock rows cols t c kind length epoch seed a l g r en ec e er =
+    let q : sketchOutcome a l ≡ freshCall rows cols (paramsOf t c) (clockOf kind length epoch epoch) seed g = e ∙ rw ec in
+    rw (er, en) (ap (outcomeOf noPlain) q)
 
-module _ (s : PlainSketch) (k : MicroCm) (ek : k ≡ sketchOf s) (a : SketchAnswer) (r : PlainAnswer) (l : List ℕ) (er : r ≡ answerOf s a) where
-  pub update-told : (key g : List ℕ) → sketchOutcome a l ≡ updateCall k key g → plainOutcome r l ≡ outcomeOf s (updateCall (sketchOf s) key g)
-  update-told key g e = changed s a l (updateCall (sketchOf s) key g) r er (e ∙ rw ek)
+-- CALLS THAT CHANGE A SKETCH
+changed : (s : PlainSketch) (a : SketchAnswer) (g : List ℕ) (o : SketchOutcome) (r : PlainAnswer) → r ≡ changedOf (settingsOf s) (s .reading) (s .state) a → sketchOutcome a g ≡ o → plainOutcome r g ≡ changeOf s o
+changed s a g o r er e = rw er (ap (changeOf s) e)
 
-  pub update-at-told : (key : List ℕ) (time : ℕ) (g : List ℕ) → sketchOutcome a l ≡ updateAtCall k key time g → plainOutcome r l ≡ outcomeOf s (updateAtCall (sketchOf s) key time g)
-  update-at-told key time g e = changed s a l (updateAtCall (sketchOf s) key time g) r er (e ∙ rw ek)
+pub merge-told : (s : PlainSketch) (k : MicroCm) (a : SketchAnswer) (r : PlainAnswer) (l : List ℕ) (s' : PlainSketch) (k' : MicroCm) (g g' : List ℕ) → k ≡ sketchOf s → k' ≡ sketchOf s' → sketchOutcome a l ≡ mergeCall k g k' g'
+    → r ≡ changedOf (settingsOf s) (s .reading) (s .state) a → plainOutcome r l ≡ changeOf s (mergeCall (sketchOf s) g (sketchOf s') g')
+merge-told s k a r l s' k' g g' ek ek' e er = changed s a l (mergeCall (sketchOf s) g (sketchOf s') g') r er (e ∙ rw (ek, ek'))
 
-  pub advance-told : (time : ℕ) (g : List ℕ) → sketchOutcome a l ≡ advanceCall k time g → plainOutcome r l ≡ outcomeOf s (advanceCall (sketchOf s) time g)
-  advance-told time g e = changed s a l (advanceCall (sketchOf s) time g) r er (e ∙ rw ek)
+-- in place
+module _ (m : PlainSettings) (reading state reading' state' : ℕ) (k : MicroCm) (ek : k ≡ sketchOf (sketchWith m reading state)) (a : SketchAnswer) (l : List ℕ) (r : PlainChange) (told : (r ≡ toldOf a) × (reading' ≡ readingAfter reading a) × (state' ≡ stateAfter state a)) where
+  abbrev s : PlainSketch
+  s = sketchWith m reading state
 
-  pub merge-told : (s' : PlainSketch) (k' : MicroCm) (g g' : List ℕ) → k' ≡ sketchOf s' → sketchOutcome a l ≡ mergeCall k g k' g' → plainOutcome r l ≡ outcomeOf s (mergeCall (sketchOf s) g (sketchOf s') g')
-  merge-told s' k' g g' ek' e = changed s a l (mergeCall (sketchOf s) g (sketchOf s') g') r er (e ∙ rw (ek, ek'))
+  put : (o : SketchOutcome) → sketchOutcome a l ≡ o → plainOutcome (inPlace m r reading' state') l ≡ changeOf s o
+  put o e = changed s a l o (inPlace m r reading' state') (rw (told .0, told .1, told .2) refl) e
+
+  pub update-put : (key g : List ℕ) → sketchOutcome a l ≡ updateCall k key g → plainOutcome (inPlace m r reading' state') l ≡ changeOf s (updateCall (sketchOf s) key g)
+  update-put key g e = put (updateCall (sketchOf s) key g) (e ∙ rw ek)
+
+  pub update-at-put : (key : List ℕ) (time : ℕ) (g : List ℕ) → sketchOutcome a l ≡ updateAtCall k key time g → plainOutcome (inPlace m r reading' state') l ≡ changeOf s (updateAtCall (sketchOf s) key time g)
+  update-at-put key time g e = put (updateAtCall (sketchOf s) key time g) (e ∙ rw ek)
+
+  pub advance-put : (time : ℕ) (g : List ℕ) → sketchOutcome a l ≡ advanceCall k time g → plainOutcome (inPlace m r reading' state') l ≡ changeOf s (advanceCall (sketchOf s) time g)
+  advance-put time g e = put (advanceCall (sketchOf s) time g) (e ∙ rw ek)
+
+-- and by value: the same on copies
+module _ (s : PlainSketch) (m : PlainSettings) (em : m ≡ settingsOf s) (change : PlainChange) (reading' state' : ℕ) (l : List ℕ) (r : PlainAnswer) (er : r ≡ inPlace m change reading' state') where
+  abbrev copy : PlainSketch
+  copy = sketchWith m (s .reading) (s .state)
+
+  abbrev Put : SketchOutcome → Type 0
+  Put o = plainOutcome (inPlace m change reading' state') l ≡ changeOf copy o
+
+  pub update-told : (key g : List ℕ) → Put (updateCall (sketchOf copy) key g) → plainOutcome r l ≡ changeOf s (updateCall (sketchOf s) key g)
+  update-told key g e = rw er (e ∙ rw em refl)
+
+  pub update-at-told : (key : List ℕ) (time : ℕ) (g : List ℕ) → Put (updateAtCall (sketchOf copy) key time g) → plainOutcome r l ≡ changeOf s (updateAtCall (sketchOf s) key time g)
+  update-at-told key time g e = rw er (e ∙ rw em refl)
+
+  pub advance-told : (time : ℕ) (g : List ℕ) → Put (advanceCall (sketchOf copy) time g) → plainOutcome r l ≡ changeOf s (advanceCall (sketchOf s) time g)
+  advance-told time g e = rw er (e ∙ rw em refl)
 
 -- CALLS THAT READ A SKETCH
 module _ (s : PlainSketch) (k : MicroCm) (ek : k ≡ sketchOf s) where

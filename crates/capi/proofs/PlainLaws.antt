@@ -1,11 +1,12 @@
 -- Plain numbers of the core's values, case by case, in the form in which the code comes to them. Assumes nothing.
 use Prim.Native.Nat.{ℕ}
-use mathlib.Core.Path.{_≡_, refl}
+use mathlib.Core.Path.{_≡_, refl, sym, _∙_}
 use mathlib.Core.Bool.{Bool, true, false, not}
 use lib.Ieee.{Float}
 use borrow.Author.Tests.{ne-eqb}
 use Rattle.refusal.specs.declared.Verdict.{Verdict}
-use Rattle.refusal.specs.Refusals.{numberOf, indexOf, isAccepted}
+use Rattle.refusal.specs.declared.Verdict.the-variants.{Accepted}
+use Rattle.refusal.specs.Refusals.{numberOf, indexOf, isAccepted, whenAccepted}
 use Rattle.refusal.proofs.VerdictLaws.{refused-leaves, turned-back, let-pass}
 use Rattle.cell.specs.declared.CellAnswer.{CellAnswer}
 use Rattle.clock.specs.declared.SubWindowClock.{SubWindowClock}
@@ -17,7 +18,10 @@ use Rattle.microscope.specs.declared.AuditAnswer.{AuditAnswer}
 use Rattle.microscope.specs.declared.Finding.the-variants.{Sound, Unsound}
 use Rattle.store.specs.declared.LoadAnswer.{LoadAnswer}
 use Rattle.capi.specs.declared.PlainSketch.{PlainSketch}
-use Rattle.capi.specs.Edge.{clockOf, sketchOf, plainWith, plainOf, answerOf, noPlain, readingOf, valueOf, figureOf, verdictOf, foundOf, auditOf, loadAnswerOf, drawnOf}
+use Rattle.capi.specs.declared.PlainSettings.{PlainSettings}
+use Rattle.capi.specs.declared.PlainChange.{PlainChange}
+use Rattle.capi.specs.declared.PlainAnswer.{PlainAnswer}
+use Rattle.capi.specs.Edge.{clockOf, sketchOf, sketchWith, settingsOf, readingIn, readingAfter, stateAfter, toldOf, changedOf, inPlace, plainWith, plainOf, answerOf, noPlain, readingOf, valueOf, figureOf, verdictOf, foundOf, auditOf, loadAnswerOf, drawnOf}
 
 -- THE CLOCK of a kind
 module _ (kind length epoch reading : ℕ) where
@@ -50,6 +54,17 @@ module _ (k : MicroCm) (length : ℕ) where
   unfolding plainWith
   time-plain epoch now e = rw e refl
 
+pub reading-count : (clock : SubWindowClock) (length seen : ℕ) → clock ≡ CountBased length seen → seen ≡ readingIn clock
+unfolding readingIn
+reading-count clock length seen e = rw e refl
+
+pub reading-time : (clock : SubWindowClock) (length epoch now : ℕ) → clock ≡ TimeBased length epoch now → now ≡ readingIn clock
+unfolding readingIn
+reading-time clock length epoch now e = rw e refl
+
+pub core-with-is : (m : PlainSettings) (reading state : ℕ) (s : PlainSketch) (k : MicroCm) → s ≡ sketchWith m reading state → k ≡ sketchOf s → k ≡ sketchOf (sketchWith m reading state)
+core-with-is m reading state s k es ek = ek ∙ rw es
+
 -- THE ANSWERS
 module _ (v : Verdict) (n i : ℕ) (en : n ≡ numberOf v) (ei : i ≡ indexOf v) where
   pub value-is : (x : ℕ) → record { number = n; index = i; value = x } ≡ valueOf v x
@@ -67,6 +82,30 @@ module _ (s : PlainSketch) (r : SketchAnswer) (ok : Bool) (asked : ok ≡ isAcce
 
   pub answer-accepted : not ok ≡ false → (plain : PlainSketch) → plain ≡ plainOf (r .sketch) → record { number = n; index = i; draws = r .draws; sketch = plain } ≡ answerOf s r
   answer-accepted h plain e = rw (en, ei, e, let-pass (r .verdict) ok asked h) refl
+
+pub change-is : (r : SketchAnswer) (n i : ℕ) → n ≡ numberOf (r .verdict) → i ≡ indexOf (r .verdict) → record { number = n; index = i; draws = r .draws } ≡ toldOf r
+change-is r n i en ei = rw (en, ei) refl
+
+module _ (r : SketchAnswer) (ok : Bool) (asked : ok ≡ isAccepted (r .verdict)) where
+  pub reading-left : not ok ≡ true → (reading : ℕ) → reading ≡ readingAfter reading r
+  reading-left h reading = sym (refused-leaves (r .verdict) (readingIn (r .sketch .clock)) reading (turned-back (r .verdict) ok asked h))
+
+  pub state-left : not ok ≡ true → (state : ℕ) → state ≡ stateAfter state r
+  state-left h state = sym (refused-leaves (r .verdict) (r .sketch .rounding .state) state (turned-back (r .verdict) ok asked h))
+
+  pub reading-put : not ok ≡ false → (reading reading' : ℕ) → reading' ≡ readingIn (r .sketch .clock) → reading' ≡ readingAfter reading r
+  reading-put h reading reading' e = e ∙ rw (let-pass (r .verdict) ok asked h) refl
+
+  pub state-put : not ok ≡ false → (state : ℕ) → r .sketch .rounding .state ≡ stateAfter state r
+  state-put h state = rw (let-pass (r .verdict) ok asked h) refl
+
+pub beside-is : (m : PlainSettings) (change : PlainChange) (reading state : ℕ) (s : PlainSketch) → s ≡ sketchWith m reading state
+    → record { number = change .number; index = change .index; draws = change .draws; sketch = s } ≡ inPlace m change reading state
+beside-is m change reading state s e = rw e refl
+
+pub changed-is : (s : PlainSketch) (m : PlainSettings) (reading' state' : ℕ) (a : SketchAnswer) (change : PlainChange) (r : PlainAnswer) → m ≡ settingsOf s → change ≡ toldOf a → reading' ≡ readingAfter (s .reading) a
+    → state' ≡ stateAfter (s .state) a → r ≡ inPlace m change reading' state' → r ≡ changedOf (settingsOf s) (s .reading) (s .state) a
+changed-is s m reading' state' a change r em ec er es e = e ∙ rw (em, ec, er, es)
 
 module _ (r : LoadAnswer) (ok : Bool) (asked : ok ≡ isAccepted (r .verdict)) (n i : ℕ) (en : n ≡ numberOf (r .verdict)) (ei : i ≡ indexOf (r .verdict)) (plain : PlainSketch) where
   pub load-refused : not ok ≡ true → plain ≡ noPlain → record { number = n; index = i; draws = 0; sketch = plain } ≡ loadAnswerOf r

@@ -28,7 +28,9 @@ use Rattle.store.specs.declared.LengthAnswer.{LengthAnswer}
 use Rattle.store.specs.declared.LoadAnswer.{LoadAnswer}
 use Rattle.store.specs.Refusals.{SaveOutcome, LoadOutcome}
 use Rattle.capi.specs.declared.PlainSketch.{PlainSketch}
+use Rattle.capi.specs.declared.PlainSettings.{PlainSettings}
 use Rattle.capi.specs.declared.PlainAnswer.{PlainAnswer}
+use Rattle.capi.specs.declared.PlainChange.{PlainChange}
 use Rattle.capi.specs.declared.PlainReading.{PlainReading}
 use Rattle.capi.specs.declared.PlainNumber.{PlainNumber}
 use Rattle.capi.specs.declared.PlainFigure.{PlainFigure}
@@ -60,7 +62,7 @@ plainWith k (TimeBased length epoch now) =
 abbrev pub plainOf : MicroCm → PlainSketch
 plainOf k = plainWith k (k .clock)
 
--- A CALL THAT MAY CHANGE THE SKETCH: the number, the index, and the sketch, as it came if the call is refused
+-- A FRESH START: the number, the index, and the sketch, none if the call is refused
 abbrev pub answerOf : PlainSketch → SketchAnswer → PlainAnswer
 answerOf s r =
     record {
@@ -79,6 +81,56 @@ plainOutcome r g = record { answer = r; grid = g }
 
 abbrev pub outcomeOf : PlainSketch → SketchOutcome → PlainOutcome
 outcomeOf s o = plainOutcome (answerOf s (o .answer)) (o .grid)
+
+-- A CALL THAT CHANGES A SKETCH: if it is accepted the clock's reading and the random state are those that it left, and nothing else
+-- of the sketch is changed; if it is refused all is as it came
+unfoldable pub readingIn : SubWindowClock → ℕ
+readingIn (CountBased length seen) = seen
+readingIn (TimeBased length epoch now) = now
+
+abbrev pub settingsOf : PlainSketch → PlainSettings
+settingsOf s =
+    record { rows = s .rows; cols = s .cols; t = s .t; c = s .c; kind = s .kind; length = s .length; epoch = s .epoch }
+
+abbrev pub sketchWith : PlainSettings → ℕ → ℕ → PlainSketch
+sketchWith m reading state =
+    record {
+      rows = m .rows;
+      cols = m .cols;
+      t = m .t;
+      c = m .c;
+      kind = m .kind;
+      length = m .length;
+      epoch = m .epoch;
+      reading = reading;
+      state = state;
+    }
+
+abbrev pub readingAfter : ℕ → SketchAnswer → ℕ
+readingAfter reading r = whenAccepted (r .verdict) (readingIn (r .sketch .clock)) reading
+
+abbrev pub stateAfter : ℕ → SketchAnswer → ℕ
+stateAfter state r = whenAccepted (r .verdict) (r .sketch .rounding .state) state
+
+abbrev pub changedOf : PlainSettings → ℕ → ℕ → SketchAnswer → PlainAnswer
+changedOf m reading state r =
+    record {
+      number = numberOf (r .verdict);
+      draws = r .draws;
+      index = indexOf (r .verdict);
+      sketch = sketchWith m (readingAfter reading r) (stateAfter state r);
+    }
+
+abbrev pub changeOf : PlainSketch → SketchOutcome → PlainOutcome
+changeOf s o = plainOutcome (changedOf (settingsOf s) (s .reading) (s .state) (o .answer)) (o .grid)
+
+-- the same where the caller keeps the reading and the state, and hands them in by their places
+abbrev pub toldOf : SketchAnswer → PlainChange
+toldOf r = record { number = numberOf (r .verdict); draws = r .draws; index = indexOf (r .verdict) }
+
+abbrev pub inPlace : PlainSettings → PlainChange → ℕ → ℕ → PlainAnswer
+inPlace m r reading state =
+    record { number = r .number; draws = r .draws; index = r .index; sketch = sketchWith m reading state }
 
 -- no sketch: what a fresh start or a load that was refused hands back
 abbrev pub noPlain : PlainSketch

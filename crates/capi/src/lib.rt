@@ -22,6 +22,18 @@ pub struct PlainSketch {
     pub state: u64,
 }
 
+// What of a sketch no call changes: all but the clock's reading and the random state.
+#[repr(C)]
+pub struct PlainSettings {
+    pub rows: usize,
+    pub cols: usize,
+    pub t: usize,
+    pub c: u32,
+    pub kind: u32,
+    pub length: u64,
+    pub epoch: u64,
+}
+
 // What a call that may change the sketch gives: the sketch to go on with, as it came if the call was refused.
 #[repr(C)]
 pub struct PlainAnswer {
@@ -29,6 +41,14 @@ pub struct PlainAnswer {
     pub index: usize,
     pub draws: u64,
     pub sketch: PlainSketch,
+}
+
+// What a call tells that changes the reading and the random state where the caller keeps them.
+#[repr(C)]
+pub struct PlainChange {
+    pub number: u64,
+    pub index: usize,
+    pub draws: u64,
 }
 
 // One reading of a key; all 0 if refused.

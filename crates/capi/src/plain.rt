@@ -1,10 +1,12 @@
 // Between the core's values and plain numbers.
 use crate::PlainAnswer;
 use crate::PlainAudit;
+use crate::PlainChange;
 use crate::PlainDrawn;
 use crate::PlainFigure;
 use crate::PlainNumber;
 use crate::PlainReading;
+use crate::PlainSettings;
 use crate::PlainSketch;
 use crate::PlainVerdict;
 use cell::CellAnswer;
@@ -20,7 +22,7 @@ use rounding::Rounding;
 use store::LoadAnswer;
 ghost use mathlib.Core.Path.{_≡_};
 ghost use Rattle.refusal.specs.Refusals.{numberOf};
-ghost use Rattle.capi.specs.Edge.{clockOf, sketchOf, plainOf, answerOf, noPlain, readingOf, valueOf, figureOf, verdictOf, auditOf, loadAnswerOf, drawnOf};
+ghost use Rattle.capi.specs.Edge.{clockOf, sketchOf, settingsOf, sketchWith, readingIn, readingAfter, stateAfter, toldOf, changedOf, inPlace, plainOf, answerOf, noPlain, readingOf, valueOf, figureOf, verdictOf, auditOf, loadAnswerOf, drawnOf};
 
 // A kind that is no kind gives a clock that every call refuses by 3.
 pub fn clock(kind: u32, length: u64, epoch: u64, reading: u64) -> SubWindowClock
@@ -45,6 +47,36 @@ pub fn clock(kind: u32, length: u64, epoch: u64, reading: u64) -> SubWindowClock
     }
 }
 
+pub fn settings(plain: PlainSketch) -> PlainSettings
+    ensures { λ r. ⌜ r ≡ settingsOf plain ⌝ }
+{
+    PlainSettings {
+        rows: plain.rows,
+        cols: plain.cols,
+        t: plain.t,
+        c: plain.c,
+        kind: plain.kind,
+        length: plain.length,
+        epoch: plain.epoch,
+    }
+}
+
+fn with(settings: PlainSettings, reading: u64, state: u64) -> PlainSketch
+    ensures { λ r. ⌜ r ≡ sketchWith settings reading state ⌝ }
+{
+    PlainSketch {
+        rows: settings.rows,
+        cols: settings.cols,
+        t: settings.t,
+        c: settings.c,
+        kind: settings.kind,
+        length: settings.length,
+        epoch: settings.epoch,
+        reading,
+        state,
+    }
+}
+
 pub fn core(plain: PlainSketch) -> MicroCm
     ensures { λ r. ⌜ r ≡ sketchOf plain ⌝ }
 {
@@ -61,6 +93,12 @@ pub fn core(plain: PlainSketch) -> MicroCm
         clock,
         rounding,
     }
+}
+
+pub fn core_with(settings: PlainSettings, reading: u64, state: u64) -> MicroCm
+    ensures { λ r. ⌜ r ≡ sketchOf (sketchWith settings reading state) ⌝ }
+{
+    core(with(settings, reading, state))
 }
 
 fn of_sketch(sketch: MicroCm) -> PlainSketch
@@ -128,7 +166,66 @@ fn number(verdict: Verdict) -> u64
     verdict.number() as u64
 }
 
-// A refused call hands the sketch back as it came.
+fn reading_in(clock: SubWindowClock) -> u64
+    ensures { λ r. ⌜ r ≡ readingIn clock ⌝ }
+{
+    match clock {
+        SubWindowClock::CountBased { seen, .. } => seen,
+        SubWindowClock::TimeBased { now, .. } => now,
+    }
+}
+
+fn change(answer: SketchAnswer) -> PlainChange
+    ensures { λ r. ⌜ r ≡ toldOf answer ⌝ }
+{
+    let verdict = answer.verdict;
+    PlainChange {
+        number: number(verdict),
+        index: verdict.index(),
+        draws: answer.draws,
+    }
+}
+
+// Puts what a call left where the caller keeps it. A refused call leaves both as they are.
+pub fn put(reading: &mut u64, state: &mut u64, answer: SketchAnswer) -> PlainChange
+    ensures { λ r. ⌜ (r ≡ toldOf answer) × (now (reading .exit) ≡ readingAfter (now (reading .entry)) answer) × (now (state .exit) ≡ stateAfter (now (state .entry)) answer) ⌝ }
+{
+    let told = change(answer);
+    let verdict = answer.verdict;
+    if !verdict.accepted() {
+        return told;
+    }
+    let sketch = answer.sketch;
+    let clock = sketch.clock;
+    let rounding = sketch.rounding;
+    *reading = reading_in(clock);
+    *state = rounding.state;
+    told
+}
+
+// The same as one answer.
+pub fn beside(change: PlainChange, settings: PlainSettings, reading: u64, state: u64) -> PlainAnswer
+    ensures { λ r. ⌜ r ≡ inPlace settings change reading state ⌝ }
+{
+    PlainAnswer {
+        number: change.number,
+        index: change.index,
+        draws: change.draws,
+        sketch: with(settings, reading, state),
+    }
+}
+
+// What a call left, as one answer.
+pub fn changed(before: PlainSketch, answer: SketchAnswer) -> PlainAnswer
+    ensures { λ r. ⌜ r ≡ changedOf (settingsOf before) (before .reading) (before .state) answer ⌝ }
+{
+    let mut reading = before.reading;
+    let mut state = before.state;
+    let change = put(&mut reading, &mut state, answer);
+    beside(change, settings(before), reading, state)
+}
+
+// A fresh start that was refused gives no sketch.
 pub fn answer(before: PlainSketch, answer: SketchAnswer) -> PlainAnswer
     ensures { λ r. ⌜ r ≡ answerOf before answer ⌝ }
 {

@@ -1,8 +1,10 @@
 // The calls on a sketch. The grid and the key are the caller's.
 use crate::PlainAnswer;
 use crate::PlainAudit;
+use crate::PlainChange;
 use crate::PlainNumber;
 use crate::PlainReading;
+use crate::PlainSettings;
 use crate::PlainSketch;
 use crate::PlainVerdict;
 use crate::plain;
@@ -10,7 +12,7 @@ use cell::MicroParams;
 use microscope::MicroCm;
 ghost use mathlib.Core.Path.{_≡_};
 ghost use Rattle.microscope.specs.Refusals.{freshCall, updateCall, updateAtCall, advanceCall, readCall, readWithCall, meanCall, bucketVerdict, highestCall, auditCall, mergeCall};
-ghost use Rattle.capi.specs.Edge.{clockOf, sketchOf, paramsOf, noPlain, plainOutcome, outcomeOf, readingOf, meanOf, highestOf, verdictOf, auditOf};
+ghost use Rattle.capi.specs.Edge.{clockOf, sketchOf, paramsOf, noPlain, plainOutcome, outcomeOf, changeOf, sketchWith, inPlace, readingOf, meanOf, highestOf, verdictOf, auditOf};
 
 // A fresh sketch: every byte of the grid is written 0. Any seed will do.
 #[no_mangle]
@@ -40,11 +42,30 @@ pub extern "C" fn microscope_update(
     key: &[u32],
     grid: &mut [u8],
 ) -> PlainAnswer
-    ensures { λ r. ⌜ plainOutcome r (now (grid .exit)) ≡ outcomeOf sketch (updateCall (sketchOf sketch) (now (key .entry)) (now (grid .entry))) ⌝ }
+    ensures { λ r. ⌜ plainOutcome r (now (grid .exit)) ≡ changeOf sketch (updateCall (sketchOf sketch) (now (key .entry)) (now (grid .entry))) ⌝ }
 {
-    let core = plain::core(sketch);
-    let answer = counting::update(core, key, grid);
-    plain::answer(sketch, answer)
+    let settings = plain::settings(sketch);
+    let mut reading = sketch.reading;
+    let mut state = sketch.state;
+    let change = microscope_update_in_place(settings, &mut reading, &mut state, &key[..], grid);
+    plain::beside(change, settings, reading, state)
+}
+
+// The same where the caller keeps the reading and the random state: nothing else of a sketch changes, so nothing else is
+// copied back and forth.
+#[no_mangle]
+pub extern "C" fn microscope_update_in_place(
+    settings: PlainSettings,
+    reading: &mut u64,
+    state: &mut u64,
+    key: &[u32],
+    grid: &mut [u8],
+) -> PlainChange
+    ensures { λ r. ⌜ plainOutcome (inPlace settings r (now (reading .exit)) (now (state .exit))) (now (grid .exit)) ≡ changeOf (sketchWith settings (now (reading .entry)) (now (state .entry))) (updateCall (sketchOf (sketchWith settings (now (reading .entry)) (now (state .entry)))) (now (key .entry)) (now (grid .entry))) ⌝ }
+{
+    let core = plain::core_with(settings, *reading, *state);
+    let answer = counting::update(core, &key[..], grid);
+    plain::put(reading, state, answer)
 }
 
 // One item on a clock of time.
@@ -55,11 +76,38 @@ pub extern "C" fn microscope_update_at(
     timestamp: u64,
     grid: &mut [u8],
 ) -> PlainAnswer
-    ensures { λ r. ⌜ plainOutcome r (now (grid .exit)) ≡ outcomeOf sketch (updateAtCall (sketchOf sketch) (now (key .entry)) timestamp (now (grid .entry))) ⌝ }
+    ensures { λ r. ⌜ plainOutcome r (now (grid .exit)) ≡ changeOf sketch (updateAtCall (sketchOf sketch) (now (key .entry)) timestamp (now (grid .entry))) ⌝ }
 {
-    let core = plain::core(sketch);
-    let answer = counting::update_at(core, key, timestamp, grid);
-    plain::answer(sketch, answer)
+    let settings = plain::settings(sketch);
+    let mut reading = sketch.reading;
+    let mut state = sketch.state;
+    let change = microscope_update_at_in_place(
+        settings,
+        &mut reading,
+        &mut state,
+        &key[..],
+        timestamp,
+        grid,
+    );
+    plain::beside(change, settings, reading, state)
+}
+
+// The same where the caller keeps the reading and the random state: nothing else of a sketch changes, so nothing else is
+// copied back and forth.
+#[no_mangle]
+pub extern "C" fn microscope_update_at_in_place(
+    settings: PlainSettings,
+    reading: &mut u64,
+    state: &mut u64,
+    key: &[u32],
+    timestamp: u64,
+    grid: &mut [u8],
+) -> PlainChange
+    ensures { λ r. ⌜ plainOutcome (inPlace settings r (now (reading .exit)) (now (state .exit))) (now (grid .exit)) ≡ changeOf (sketchWith settings (now (reading .entry)) (now (state .entry))) (updateAtCall (sketchOf (sketchWith settings (now (reading .entry)) (now (state .entry)))) (now (key .entry)) timestamp (now (grid .entry))) ⌝ }
+{
+    let core = plain::core_with(settings, *reading, *state);
+    let answer = counting::update_at(core, &key[..], timestamp, grid);
+    plain::put(reading, state, answer)
 }
 
 // Time passes without an item.
@@ -69,11 +117,36 @@ pub extern "C" fn microscope_advance_to(
     timestamp: u64,
     grid: &mut [u8],
 ) -> PlainAnswer
-    ensures { λ r. ⌜ plainOutcome r (now (grid .exit)) ≡ outcomeOf sketch (advanceCall (sketchOf sketch) timestamp (now (grid .entry))) ⌝ }
+    ensures { λ r. ⌜ plainOutcome r (now (grid .exit)) ≡ changeOf sketch (advanceCall (sketchOf sketch) timestamp (now (grid .entry))) ⌝ }
 {
-    let core = plain::core(sketch);
+    let settings = plain::settings(sketch);
+    let mut reading = sketch.reading;
+    let mut state = sketch.state;
+    let change = microscope_advance_to_in_place(
+        settings,
+        &mut reading,
+        &mut state,
+        timestamp,
+        grid,
+    );
+    plain::beside(change, settings, reading, state)
+}
+
+// The same where the caller keeps the reading and the random state: nothing else of a sketch changes, so nothing else is
+// copied back and forth.
+#[no_mangle]
+pub extern "C" fn microscope_advance_to_in_place(
+    settings: PlainSettings,
+    reading: &mut u64,
+    state: &mut u64,
+    timestamp: u64,
+    grid: &mut [u8],
+) -> PlainChange
+    ensures { λ r. ⌜ plainOutcome (inPlace settings r (now (reading .exit)) (now (state .exit))) (now (grid .exit)) ≡ changeOf (sketchWith settings (now (reading .entry)) (now (state .entry))) (advanceCall (sketchOf (sketchWith settings (now (reading .entry)) (now (state .entry)))) timestamp (now (grid .entry))) ⌝ }
+{
+    let core = plain::core_with(settings, *reading, *state);
     let answer = counting::advance_to(core, timestamp, grid);
-    plain::answer(sketch, answer)
+    plain::put(reading, state, answer)
 }
 
 // The figures of a key, with the clock's fraction.
@@ -157,10 +230,10 @@ pub extern "C" fn microscope_merge(
     other: PlainSketch,
     other_grid: &[u8],
 ) -> PlainAnswer
-    ensures { λ r. ⌜ plainOutcome r (now (grid .exit)) ≡ outcomeOf sketch (mergeCall (sketchOf sketch) (now (grid .entry)) (sketchOf other) (now («other_grid» .entry))) ⌝ }
+    ensures { λ r. ⌜ plainOutcome r (now (grid .exit)) ≡ changeOf sketch (mergeCall (sketchOf sketch) (now (grid .entry)) (sketchOf other) (now («other_grid» .entry))) ⌝ }
 {
     let core = plain::core(sketch);
     let others = plain::core(other);
     let answer = sketch_merging::merge(core, grid, others, other_grid);
-    plain::answer(sketch, answer)
+    plain::changed(sketch, answer)
 }

@@ -9,7 +9,7 @@ use crate::numbers;
 use crate::pair::narrow;
 use crate::score::{Outcome, called, same, same_bytes, same_number};
 use crate::stories::{self, FRACTIONS};
-use microscope::calls::{self, Answer, Reading, Sketch};
+use microscope::calls::{self, Answer, Change, Reading, Sketch};
 
 /// An answer beside its number, and what it left beside what the Rust left.
 fn answered(answer: Answer, right: u64, before: &Held, left: &[u8], call: impl FnOnce(&mut judge::Sketch)) -> Outcome {
@@ -26,13 +26,7 @@ fn answered(answer: Answer, right: u64, before: &Held, left: &[u8], call: impl F
     call(&mut theirs);
     let clock = judge::clock(&theirs);
     let state = judge::state(&theirs);
-    let epoch = if before.sketch.kind == 1 {
-        before.sketch.epoch
-    } else {
-        0
-    };
     let sketch = Sketch {
-        epoch,
         reading: clock.reading,
         state,
         ..before.sketch
@@ -40,6 +34,20 @@ fn answered(answer: Answer, right: u64, before: &Held, left: &[u8], call: impl F
     same("sketch", answer.sketch, sketch)?;
     same("draws", answer.draws, judge::draws_between(before.sketch.state, state))?;
     same_bytes("the grid", left, judge::grid(&theirs))
+}
+
+/// The same call in place gives the same numbers, reading, state and bytes, accepted or refused.
+fn in_place(answer: Answer, left: &[u8], before: &Held, call: impl FnOnce(&mut Sketch, &mut [u8]) -> Change) -> Outcome {
+    let mut sketch = before.sketch;
+    let mut grid = before.grid.clone();
+    let change = called(call(&mut sketch, &mut grid));
+    same(
+        "what is told in place",
+        (change.number, change.index, change.draws),
+        (answer.number, answer.index, answer.draws),
+    )?;
+    same("the sketch in place", sketch, answer.sketch)?;
+    same_bytes("the grid in place", &grid, left)
 }
 
 fn changes(dice: &mut Dice, before: &Held, key: &[u32]) -> Outcome {
@@ -53,6 +61,7 @@ fn changes(dice: &mut Dice, before: &Held, key: &[u32]) -> Outcome {
     match dice.below(3) {
         0 => {
             let answer = called(calls::update(s, key, &mut grid));
+            in_place(answer, &grid, before, |s, grid| calls::update_in_place(s, key, grid))?;
             names(answer.number, answer.index, &[before])?;
             answered(
                 answer,
@@ -64,6 +73,7 @@ fn changes(dice: &mut Dice, before: &Held, key: &[u32]) -> Outcome {
         }
         1 => {
             let answer = called(calls::update_at(s, key, time, &mut grid));
+            in_place(answer, &grid, before, |s, grid| calls::update_at_in_place(s, key, time, grid))?;
             names(answer.number, answer.index, &[before])?;
             answered(
                 answer,
@@ -75,6 +85,7 @@ fn changes(dice: &mut Dice, before: &Held, key: &[u32]) -> Outcome {
         }
         _ => {
             let answer = called(calls::advance_to(s, time, &mut grid));
+            in_place(answer, &grid, before, |s, grid| calls::advance_to_in_place(s, time, grid))?;
             names(answer.number, answer.index, &[before])?;
             answered(
                 answer,

@@ -1,17 +1,17 @@
--- `microscope_advance_to`: the core's advance in plain numbers. Assumes nothing.
+-- `microscope_advance_to`: the same call in place, on copies. Assumes nothing.
 use Rattle.capi.proofs.EdgeLaws.{advance-told}
 use borrow.Author.Needs.{needs}
 use Rattle.capi.proofs.sketches.microscope_advance_to.Statement.{statement}
 use Rattle.capi.proofs.sketches.microscope_advance_to.Tie as tie
 
-core-requires : tie.Need-core-requires
-core-requires c κs = search needs
+settings-requires : tie.Need-settings-requires
+settings-requires c κs = search needs
 
-advance-to-requires : tie.Need-advance-to-requires
-advance-to-requires c κs = search needs
+microscope-advance-to-in-place-requires : tie.Need-microscope-advance-to-in-place-requires
+microscope-advance-to-in-place-requires c κs = search needs
 
-answer-requires : tie.Need-answer-requires
-answer-requires c κs = search needs
+beside-requires : tie.Need-beside-requires
+beside-requires c κs = search needs
 
 same-length : tie.Need-same-length
 same-length c = search needs
@@ -21,4 +21,10 @@ returns c = search (advance-told, needs)
 
 pub microscope-advance-to-spec : {M : Type 1} → statement M
 microscope-advance-to-spec =
-    tie.close (tie.spec core-requires advance-to-requires answer-requires same-length returns)
+    tie.close
+    (tie.spec
+    settings-requires
+    microscope-advance-to-in-place-requires
+    beside-requires
+    same-length
+    returns)

@@ -13,8 +13,8 @@ core-requires-2 c κs = search needs
 merge-requires : tie.Need-merge-requires
 merge-requires c κs = search needs
 
-answer-requires : tie.Need-answer-requires
-answer-requires c κs = search needs
+changed-requires : tie.Need-changed-requires
+changed-requires c κs = search needs
 
 same-length : tie.Need-same-length
 same-length c = search needs
@@ -25,4 +25,4 @@ returns c = search (merge-told, needs)
 pub microscope-merge-spec : {M : Type 1} → statement M
 microscope-merge-spec =
     tie.close
-    (tie.spec core-requires core-requires-2 merge-requires answer-requires same-length returns)
+    (tie.spec core-requires core-requires-2 merge-requires changed-requires same-length returns)

@@ -1,17 +1,17 @@
--- `microscope_update`: the core's update in plain numbers. Assumes nothing.
+-- `microscope_update`: the same call in place, on copies. Assumes nothing.
 use Rattle.capi.proofs.EdgeLaws.{update-told}
 use borrow.Author.Needs.{needs}
 use Rattle.capi.proofs.sketches.microscope_update.Statement.{statement}
 use Rattle.capi.proofs.sketches.microscope_update.Tie as tie
 
-core-requires : tie.Need-core-requires
-core-requires c κs = search needs
+settings-requires : tie.Need-settings-requires
+settings-requires c κs = search needs
 
-update-requires : tie.Need-update-requires
-update-requires c κs = search needs
+microscope-update-in-place-requires : tie.Need-microscope-update-in-place-requires
+microscope-update-in-place-requires c κs = search needs
 
-answer-requires : tie.Need-answer-requires
-answer-requires c κs = search needs
+beside-requires : tie.Need-beside-requires
+beside-requires c κs = search needs
 
 same-length : tie.Need-same-length
 same-length c = search needs
@@ -21,4 +21,10 @@ returns c = search (update-told, needs)
 
 pub microscope-update-spec : {M : Type 1} → statement M
 microscope-update-spec =
-    tie.close (tie.spec core-requires update-requires answer-requires same-length returns)
+    tie.close
+    (tie.spec
+    settings-requires
+    microscope-update-in-place-requires
+    beside-requires
+    same-length
+    returns)

@@ -1,17 +1,17 @@
--- `microscope_update_at`: the core's update in plain numbers. Assumes nothing.
+-- `microscope_update_at`: the same call in place, on copies. Assumes nothing.
 use Rattle.capi.proofs.EdgeLaws.{update-at-told}
 use borrow.Author.Needs.{needs}
 use Rattle.capi.proofs.sketches.microscope_update_at.Statement.{statement}
 use Rattle.capi.proofs.sketches.microscope_update_at.Tie as tie
 
-core-requires : tie.Need-core-requires
-core-requires c κs = search needs
+settings-requires : tie.Need-settings-requires
+settings-requires c κs = search needs
 
-update-at-requires : tie.Need-update-at-requires
-update-at-requires c κs = search needs
+microscope-update-at-in-place-requires : tie.Need-microscope-update-at-in-place-requires
+microscope-update-at-in-place-requires c κs = search needs
 
-answer-requires : tie.Need-answer-requires
-answer-requires c κs = search needs
+beside-requires : tie.Need-beside-requires
+beside-requires c κs = search needs
 
 same-length : tie.Need-same-length
 same-length c = search needs
@@ -21,4 +21,10 @@ returns c = search (update-at-told, needs)
 
 pub microscope-update-at-spec : {M : Type 1} → statement M
 microscope-update-at-spec =
-    tie.close (tie.spec core-requires update-at-requires answer-requires same-length returns)
+    tie.close
+    (tie.spec
+    settings-requires
+    microscope-update-at-in-place-requires
+    beside-requires
+    same-length
+    returns)
