@@ -1,8 +1,8 @@
 -- The ways out of the code, in the form in which it comes to them: which variant the clock is, what the tests said, what the verdict was.
-use Prim.Native.Nat.{ℕ, _+_, _-_, _%_, _^_, _≤_, _<_}
+use Prim.Native.Nat.{ℕ, _+_, _-_, _*_, _/_, _%_, _^_, _≤_, _<_}
 use mathlib.Core.Path.{_≡_, refl, sym, ap, _∙_}
 use mathlib.Core.Bool.{Bool, true, false, not}
-use native.Mathlib.Nat.{le-refl, mod-lt}
+use native.Mathlib.Nat.{le-refl, mod-lt, div-mul-le-self, div-le-self}
 use native.Mathlib.Omega.{arith}
 use lib.IntN.{pos}
 use lib.Dec.{T, eqb}
@@ -21,7 +21,7 @@ use Rattle.clock.specs.declared.SubWindowClock.the-variants.{CountBased,
 use Rattle.clock.specs.declared.FractionAnswer.{FractionAnswer}
 use Rattle.clock.specs.declared.MovedAnswer.{MovedAnswer}
 use Rattle.clock.specs.Clock.{GoodLength, Onward, lengthOf, passedOf, nOf, fractionOf, tickOf, advanceOf, crossedOf, startOf, sameFrame}
-use Rattle.clock.proofs.ClockLaws.{fraction-in-unit, tick-grows, advance-grows}
+use Rattle.clock.proofs.ClockLaws.{fraction-in-unit, quotient-next, quotient-stays, tick-grows, advance-grows}
 use Rattle.clock.specs.Refusals.{refuseLength, lengthVerdict, movedCall, nCall, fractionCall}
 
 -- ---- one clock, of items and of time
@@ -42,7 +42,43 @@ module _ (k : SubWindowClock) (length seen : ℕ) (is : k ≡ CountBased length 
   pub tick-full : 2 ^ 64 - 1 ≤ seen → seen < 2 ^ 64 → Onward k (tickOf k) (CountBased length (2 ^ 64 - 1))
   tick-full h l = counted (2 ^ 64 - 1) (ap (CountBased length) (omega arith)) l
 
+  -- the sub-window after the tick, from the present one
+  module _ (n : ℕ) (en : n ≡ nOf k) where
+    present : n ≡ seen / length
+    unfolding nOf
+    present = en ∙ rw is refl
+
+    before : n * length ≤ seen
+    before = rw present (div-mul-le-self seen length)
+
+    pub items-before : n * length ≤ seen + 1
+    items-before = omega (arith, before)
+
+    pub items-fit : seen < 2 ^ 64 → n * length < 2 ^ 64
+    items-fit h = omega (arith, before)
+
+    pub next-full : seen ≡ 2 ^ 64 - 1 → n ≡ nOf (tickOf k)
+    unfolding nOf
+    next-full e = rw (is, e) (present ∙ rw e refl)
+
+    module _ (h : seen < 2 ^ 64) (room : seen ≡ 2 ^ 64 - 1 → ⊥) where
+      next-is : nOf (tickOf k) ≡ (seen + 1) / length
+      unfolding nOf
+      next-is = rw is (ap (λ (s : ℕ). s / length) (omega arith))
+
+      pub next-fits : n + 1 < 2 ^ 64
+      next-fits = omega (arith, present, div-le-self seen length)
+
+      pub next-begins : seen + 1 - n * length ≡ length → n + 1 ≡ nOf (tickOf k)
+      next-begins e = sym (next-is ∙ quotient-next length seen n present e)
+
+      pub next-stays : (seen + 1 - n * length ≡ length → ⊥) → n ≡ nOf (tickOf k)
+      next-stays e = sym (next-is ∙ quotient-stays length seen n present e)
+
 module _ (k : SubWindowClock) (length epoch now : ℕ) (is : k ≡ TimeBased length epoch now) where
+  pub next-timed : (n : ℕ) → n ≡ nOf k → n ≡ nOf (tickOf k)
+  next-timed n en = en ∙ rw is refl
+
   pub passed-none : now < epoch → 0 ≡ passedOf k
   passed-none h = rw is (omega arith)
 

@@ -1,8 +1,8 @@
 -- What a clock keeps, and how n and the fraction follow what has passed: a tick or a reading only ever raises that, and a quotient grows with its dividend.
-use Prim.Native.Nat.{ℕ, zero, suc, _+_, _-_, _/_, _%_, _^_, _≤_, _<_, max}
+use Prim.Native.Nat.{ℕ, zero, suc, _+_, _-_, _*_, _/_, _%_, _^_, _≤_, _<_, max}
 use mathlib.Core.Path.{_≡_, refl, sym, ap, _∙_}
 use mathlib.Core.Bool.{Bool, true, false}
-use native.Mathlib.Nat.{div-zero, zero-div, zero-mod, mod-lt, le-div-iff-mul-le, div-mul-le-self, add-div-right, zero-lt-suc, le-trans, le-of-lt, max-eq-left, max-eq-right}
+use native.Mathlib.Nat.{div-zero, zero-div, zero-mod, mod-lt, le-div-iff-mul-le, div-mul-le-self, lt-div-mul-add, div-eq-of-eq-mul-left, div-eq-of-lt-le, add-div-right, add-mul, zero-lt-suc, le-trans, le-of-lt, max-eq-left, max-eq-right}
 use native.Mathlib.Omega.{arith}
 use lib.Ieee.{binary64, div}
 use lib.Ieee.Scale.{round-same}
@@ -73,6 +73,20 @@ quotient-grows (suc d) {a} h = le-div-iff-mul-le (zero-lt-suc d) .1 (le-trans (d
 quotient-step : (d a : ℕ) → (a + 1) / d ≤ a / d + 1
 quotient-step zero a = simp div-zero (omega arith)
 quotient-step (suc d) a = rw (← add-div-right a (zero-lt-suc d)) (quotient-grows (suc d) (omega arith))
+
+-- one more fills the piece, and the next begins; or it does not, and the quotient stays
+pub quotient-next : (d a q : ℕ) → q ≡ a / d → a + 1 - q * d ≡ d → (a + 1) / d ≡ q + 1
+quotient-next zero a q is e = omega arith
+quotient-next (suc d) a q is e =
+    let low : q * suc d ≤ a = rw is (div-mul-le-self a (suc d)) in
+    div-eq-of-eq-mul-left (zero-lt-suc d) (omega (arith, add-mul q 1 (suc d)))
+
+pub quotient-stays : (d a q : ℕ) → q ≡ a / d → (a + 1 - q * d ≡ d → ⊥) → (a + 1) / d ≡ q
+quotient-stays zero a q is e = rw (div-zero, is, div-zero) refl
+quotient-stays (suc d) a q is e =
+    let low : q * suc d ≤ a = rw is (div-mul-le-self a (suc d)) in
+    let high : a < q * suc d + suc d = rw is (lt-div-mul-add (zero-lt-suc d)) in
+    div-eq-of-lt-le (suc d) (omega arith) (omega (arith, add-mul q 1 (suc d)))
 
 pub no-length-n : (k : SubWindowClock) (length : ℕ) → length ≡ lengthOf k → length ≡ 0 → 0 ≡ nOf k
 unfolding nOf

@@ -106,6 +106,29 @@ pub fn ticked(clock: SubWindowClock) -> SubWindowClock
     }
 }
 
+// The sub-window after a tick, from the present one: where that is known a multiplication stands for the second division.
+pub fn next_sub_window(clock: SubWindowClock, n: u64) -> u64
+    requires { ⌜ n ≡ nOf clock ⌝ }
+    ensures { λ r. ⌜ r ≡ nOf (tickOf clock) ⌝ }
+{
+    match clock {
+        SubWindowClock::CountBased {
+            items_per_sub_window,
+            seen,
+        } => {
+            // A full count stays: the tick leaves it.
+            if seen == u64::MAX {
+                return n;
+            }
+            if seen + 1 - n * items_per_sub_window == items_per_sub_window {
+                return n + 1;
+            }
+            n
+        }
+        SubWindowClock::TimeBased { .. } => n,
+    }
+}
+
 pub fn advanced(clock: SubWindowClock, reading: u64) -> SubWindowClock
     ensures { λ r. ⌜ Onward clock (advanceOf clock reading) r ⌝ }
 {

@@ -5,14 +5,10 @@ use mathlib.Core.Bool.{true}
 use mathlib.Core.List.{List}
 use native.Mathlib.Omega.{arith}
 use lib.ListN.{length, take, drop}
-use Rattle.laws.specs.Passes.{eachOf}
 use Rattle.laws.proofs.PassLaws.{Going, going-piece, going-length}
 use Rattle.cell.specs.Cell.{depthOf, soundOf}
 use Rattle.cell.specs.Workers.{Fit}
-use Rattle.microscope.specs.declared.MicroCm.{MicroCm}
-use Rattle.microscope.specs.declared.Passed.{Passed}
-use Rattle.microscope.specs.Sketch.{cellsOf, crossEach}
-use Rattle.microscope.specs.Workers.{SoundCells, passOf}
+use Rattle.microscope.specs.Workers.{SoundCells}
 use Rattle.counting.specs.Workers.{crossPiece}
 
 module _ (t c n crossed count : ℕ) (g₀ : List ℕ) (σ₀ : ℕ) (ok : SoundCells t c count g₀) (g : List ℕ) (σ drawn a i : ℕ)
@@ -32,8 +28,3 @@ module _ (t c n crossed count : ℕ) (g₀ : List ℕ) (σ₀ : ℕ) (ok : Sound
 
 pub few-each : (t k : ℕ) → t ≤ 4096 → k ≤ t + 3 → k ≤ 4099
 few-each t k h l = omega arith
-
-pub crossed-all : (k : MicroCm) (n crossed : ℕ) (g l : List ℕ) (σ : ℕ) (r : Passed)
-    → passOf l r ≡ eachOf (crossPiece (k .params .t) (k .params .c) n crossed) (depthOf (k .params .t)) 0 (cellsOf k) g σ → passOf l r ≡ crossEach k n crossed g σ
-unfolding crossEach
-crossed-all k n crossed g l σ r e = e

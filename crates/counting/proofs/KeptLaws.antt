@@ -1,160 +1,153 @@
--- What a call has judged still holds between its two halves: a recording and a move keep the grid's length, and a step keeps a sound cell sound.
-use Prim.Native.Nat.{ℕ, suc, _-_}
+-- What a call has judged still holds between its steps: a crossing and a recording keep the grid's length, and a sound cell sound.
+use Prim.Native.Nat.{ℕ, _+_, _-_, _*_, _^_, _≤_, _<_}
 use mathlib.Core.Path.{_≡_, refl, sym, ap, _∙_, subst}
-use mathlib.Core.Bool.{Bool, true, false, cond}
-use mathlib.Core.List.{List, [], _∷_}
+use mathlib.Core.Bool.{Bool, true, false, not, cond}
+use mathlib.Core.List.{List, []}
 use lib.Dec.{eqb}
 use lib.ListN.{length}
 use native.Mathlib.Omega.{arith}
-use borrow.Author.Tests.{eqb-true}
+use borrow.Author.Tests.{eqb-true, eqb-false, ne-eqb, not-true}
+use Rattle.laws.specs.Steps.{Step}
+use Rattle.refusal.specs.declared.Verdict.{Verdict}
 use Rattle.refusal.specs.declared.Verdict.the-variants.{Accepted, Unsound}
+use Rattle.refusal.specs.Refusals.{isAccepted, refuse}
+use Rattle.refusal.proofs.VerdictLaws.{let-pass, not-refused}
+use Rattle.refusal.proofs.GateLaws.{gate-passed}
 use Rattle.clock.specs.declared.SubWindowClock.{SubWindowClock}
-use Rattle.clock.specs.Clock.{lengthOf, nOf}
+use Rattle.clock.specs.Clock.{nOf}
 use Rattle.microscope.specs.declared.MicroCm.{MicroCm}
-use Rattle.microscope.specs.Sketch.{cellsOf, cellIndex, keyCells, allCells, World, recorded, moved}
-use Rattle.microscope.specs.Refusals.{allBelow, keyFits, world}
-use Rattle.microscope.specs.Audit.{firstUnsound}
-use Rattle.microscope.specs.Workers.{Ready, Judged, Readable}
-use Rattle.microscope.proofs.JudgedLaws.{judged-all}
-use Rattle.microscope.proofs.GridLaws.{Fits, Holding, insert-each-length, cross-each-length}
+use Rattle.microscope.specs.declared.Passed.{Passed}
+use Rattle.microscope.specs.Sketch.{cellsOf, keyCells, allCells, insertEach, crossEach}
+use Rattle.microscope.specs.Refusals.{allBelow, keyFits, refuseSketch, refuseKey, refuseUnsound, judgedCells, sketchVerdict}
+use Rattle.microscope.specs.Workers.{Ready, Judged, Readable, SoundCells, passOf}
+use Rattle.microscope.proofs.AddressLaws.{cells-few, cells-fit}
+use Rattle.microscope.proofs.JudgedLaws.{judged-all, sound-cells}
+use Rattle.microscope.proofs.GridLaws.{Fits, Holding, cross-each-length}
 use Rattle.microscope.proofs.KeyLaws.{key-cells-below}
-use Rattle.microscope.proofs.WorldLaws.{GoodWorld, fits-key, none-unsound, all-cells-below, recorded-good, moved-good}
-use Rattle.microscope.proofs.ReadyLaws.{ready-of, alive-of}
-use Rattle.counting.specs.declared.Passage.{Passage}
-use Rattle.counting.specs.Workers.{Movable, JudgedItem, worldOf, taking}
-use Rattle.counting.proofs.PassageLaws.{cross-none}
+use Rattle.microscope.proofs.WorldLaws.{Good, fits-key, none-unsound, insert-each-good, cross-each-good}
+use Rattle.microscope.proofs.ReadyLaws.{ready-of, alive-of, keyed-ready}
+use Rattle.microscope.proofs.SketchGates.{sketch-gate}
+use Rattle.counting.specs.Workers.{SoundIf, SubWindows, cross, itemVerdict, moveVerdict}
+use Rattle.counting.proofs.VerdictCases.{keyed, keyed-gate}
 
--- ANOTHER CLOCK and another state change no cell
-module _ (k : MicroCm) (clock : SubWindowClock) (σ : ℕ) where
-  alike-cells : (row : ℕ) (key : List ℕ) → keyCells (taking k clock σ) row key ≡ keyCells k row key
-  unfolding keyCells
-  alike-cells row [] = refl
-  alike-cells row (col ∷ key) = ap (λ (js : List ℕ). cellIndex k row col ∷ js) (alike-cells (suc row) key)
+-- where n rises every cell was judged
+rose-all : (k : MicroCm) (g : List ℕ) (clock : SubWindowClock) (cells : List ℕ) → Judged k g (judgedCells k clock cells) → (nOf clock ≡ nOf (k .clock) → ⊥) → Judged k g (allCells k)
+rose-all k g clock cells w rose = rw (ne-eqb _ _ rose) at w
 
-  alike-judged : (g js : List ℕ) → firstUnsound Unsound Accepted (taking k clock σ) g js ≡ firstUnsound Unsound Accepted k g js
-  unfolding firstUnsound
-  alike-judged g [] = refl
-  alike-judged g (j ∷ js) = rw (alike-judged g js) refl
+good-of : (k : MicroCm) (g : List ℕ) → sketchVerdict k g ≡ Accepted → Judged k g (allCells k) → Good k g (k .rounding .state)
+good-of k g e w = record { whole = ready-of k g e .size-is; alive = alive-of k g e; sound = λ j l. judged-all k g j w l }
 
-  alike-ready : (size : ℕ) → lengthOf clock ≡ lengthOf (k .clock) → Ready k size → Ready (taking k clock σ) size
-  alike-ready size e r =
-      record {
-        t-low = r .t-low;
-        t-high = r .t-high;
-        c-low = r .c-low;
-        c-high = r .c-high;
-        length-low = rw e (r .length-low);
-        length-high = rw e (r .length-high);
-        rows-low = r .rows-low;
-        rows-high = r .rows-high;
-        cols-low = r .cols-low;
-        cols-high = r .cols-high;
-        size-is = r .size-is;
-      }
+-- AN ITEM that was accepted
+module _ (k : MicroCm) (key g : List ℕ) (clock : SubWindowClock) (wrong : Bool) (v : Verdict) (ev : v ≡ itemVerdict k key g clock wrong) (ok : Bool) (asked : ok ≡ isAccepted v) (a : not ok ≡ false) where
+  abbrev cells : Verdict
+  cells = refuseUnsound k g (judgedCells k clock (keyCells k 0 key)) Accepted
 
--- AN ITEM THAT WAS JUDGED
-module _ (k : MicroCm) (key g : List ℕ) (clock : SubWindowClock) (item : JudgedItem k key g clock) where
-  ready : Ready k (length g)
-  ready = ready-of k g (item .sketch)
+  passed : (keyed k key g Accepted ≡ Accepted) × (refuse 8 wrong cells ≡ Accepted)
+  passed = gate-passed (keyed k key g) (keyed-gate k key g) (refuse 8 wrong cells) (sym ev ∙ let-pass v ok asked a)
+
+  whole : sketchVerdict k g ≡ Accepted
+  whole = gate-passed (refuseSketch k g) (sketch-gate k g) (refuseKey k key Accepted) (passed .0) .0
+
+  judged : Judged k g (judgedCells k clock (keyCells k 0 key))
+  judged = not-refused 8 wrong cells (passed .1) .1
+
+  pub item-ready : Ready k (length g)
+  item-ready = ready-of k g whole
+
+  pub item-fits : keyFits k key ≡ true
+  item-fits = keyed-ready k key g (passed .0) .1
+
+  pub item-cells-fit : k .rows * k .cols < 2 ^ 64
+  item-cells-fit = cells-fit k (length g) item-ready
 
   fit : Fits k
-  fit = record { t-low = ready .t-low; t-high = ready .t-high; c-low = ready .c-low; c-high = ready .c-high; size-is = refl }
-
-  room : Holding k g
-  room = omega (arith, ready .size-is)
+  fit = record { t-low = item-ready .t-low; t-high = item-ready .t-high; c-low = item-ready .c-low; c-high = item-ready .c-high; size-is = refl }
 
   below : allBelow (cellsOf k) (keyCells k 0 key) ≡ true
-  below = key-cells-below k 0 key (fits-key k key (item .fits))
+  below = key-cells-below k 0 key (fits-key k key item-fits)
 
-  good : Judged k g (allCells k) → GoodWorld (world k g)
-  good w = record { whole = ready .size-is; alive = alive-of k g (item .sketch); sound = λ j l. judged-all k g j w l }
+  key-judged : Judged k g (keyCells k 0 key)
+  key-judged = by (eqb (nOf clock) (nOf (k .clock))) judged
+    where
+      by : (stays : Bool) → Judged k g (cond stays (keyCells k 0 key) (allCells k)) → Judged k g (keyCells k 0 key)
+      by true w = w
+      by false w = none-unsound Unsound Accepted k g (k .rounding .state) (good-of k g whole w) (keyCells k 0 key) below
 
-  -- BEFORE: the key's cells are judged either way, and every cell where n rises
-  key-judged : (stays : Bool) → Judged k g (cond stays (keyCells k 0 key) (allCells k)) → Judged k g (keyCells k 0 key)
-  key-judged true w = w
-  key-judged false w = none-unsound Unsound Accepted k g (k .rounding .state) (good w) (keyCells k 0 key) below
+  module _ (old new n : ℕ) (at : SubWindows k clock old new n) where
+    -- an item outside one of the two sub-windows is one of a call that crosses
+    rose-first : not (eqb n old) ≡ true → new ≡ old → ⊥
+    rose-first h e = eqb-false n old (not-true (eqb n old) h) (at .own e)
 
-  pub item-readable : Readable k key g
-  item-readable = record { ready = ready; fits = item .fits; judged = key-judged (eqb (nOf clock) (nOf (k .clock))) (item .judged) }
+    rose-last : not (eqb new n) ≡ true → new ≡ old → ⊥
+    rose-last h e = eqb-false new n (not-true (eqb new n) h) (e ∙ sym (at .own e))
 
-  cross-judged : (stays : Bool) → Judged k g (cond stays (keyCells k 0 key) (allCells k)) → Judged k g (cond stays [] (allCells k))
-  unfolding firstUnsound
-  cross-judged true w = refl
-  cross-judged false w = w
+    good : (new ≡ old → ⊥) → Good k g (k .rounding .state)
+    good rose = good-of k g whole (rose-all k g clock (keyCells k 0 key) judged (λ e. rose (at .after-is ∙ e ∙ sym (at .before-is))))
 
-  pub item-movable : Movable k clock g
-  item-movable = record { ready = ready; as-long = item .as-long; grows = item .grows; judged = cross-judged (eqb (nOf clock) (nOf (k .clock))) (item .judged) }
+    good-cells : (l : List ℕ) (σ : ℕ) → Good k l σ → SoundCells (k .params .t) (k .params .c) (cellsOf k) l
+    good-cells l σ h = record { fit = fit; few = cells-few k (length g) item-ready; room = omega (arith, h .whole); sound = h .sound }
 
-  -- AFTER THE RECORDING
-  abbrev after : World
-  after = recorded key (world k g)
+    pub before-sound : SoundIf (not (eqb n old)) (k .params .t) (k .params .c) (k .rows * k .cols) g
+    before-sound = record { sound = λ h. good-cells g (k .rounding .state) (good (rose-first h)) }
 
-  after-length : length (after .grid) ≡ length g
-  unfolding recorded
-  after-length = insert-each-length k fit (nOf (k .clock)) (keyCells k 0 key) g (k .rounding .state) below room
+    -- BETWEEN the crossing and the item
+    module _ (m : List ℕ) (p : Passed) (ep : passOf m p ≡ cross k (not (eqb n old)) old new g (k .rounding .state)) where
+      by-move : (P : Step → Type 0) → (not (eqb n old) ≡ true → P (crossEach k new (new - old) g (k .rounding .state))) → (not (eqb n old) ≡ false → P (record { bytes = g; state = k .rounding .state; draws = 0 })) → P (passOf m p)
+      unfolding crossEach
+      by-move P moves stays = go (not (eqb n old)) refl ep
+        where
+          go : (b : Bool) → not (eqb n old) ≡ b → passOf m p ≡ cross k b old new g (k .rounding .state) → P (passOf m p)
+          go true h e = subst P (sym e) (moves h)
+          go false h e = subst P (sym e) (stays h)
 
-  after-judged : (stays : Bool) → Judged k g (cond stays (keyCells k 0 key) (allCells k)) → Judged (after .sketch) (after .grid) (cond stays [] (allCells (after .sketch)))
-  unfolding firstUnsound
-  after-judged true w = refl
-  after-judged false w =
-      none-unsound Unsound Accepted (after .sketch) (after .grid) (after .sketch .rounding .state) (recorded-good (world k g) fit (good w) key (item .fits)) (allCells (after .sketch)) (all-cells-below (after .sketch))
+      between-good : (new ≡ old → ⊥) → Good k m (p .state)
+      between-good rose = by-move (λ (s : Step). Good k (s .bytes) (s .state)) (λ h. cross-each-good k g (k .rounding .state) fit (good rose) new (new - old)) (λ h. good rose)
 
-  after-movable : Movable (after .sketch) clock (after .grid)
-  unfolding recorded
-  after-movable =
+      between-length : length m ≡ length g
+      between-length = by-move (λ (s : Step). length (s .bytes) ≡ length g) (λ h. cross-each-length k fit new (new - old) g (k .rounding .state) (omega (arith, item-ready .size-is))) (λ h. refl)
+
+      between-judged : Judged k m (keyCells k 0 key)
+      between-judged =
+          by-move (λ (s : Step). Judged k (s .bytes) (keyCells k 0 key))
+          (λ h. let w = cross-each-good k g (k .rounding .state) fit (good (rose-first h)) new (new - old) in none-unsound Unsound Accepted k _ _ w (keyCells k 0 key) below)
+          (λ h. key-judged)
+
+      pub between-readable : Readable k key m
+      between-readable = record { ready = rw between-length item-ready; fits = item-fits; judged = between-judged }
+
+      pub last-sound : (l : List ℕ) (r : Passed) → passOf l r ≡ insertEach k n (keyCells k 0 key) m (p .state) → SoundIf (not (eqb new n)) (k .params .t) (k .params .c) (k .rows * k .cols) l
+      last-sound l r er =
+          record {
+            sound =
+                λ h. let w = insert-each-good k m (p .state) fit (between-good (rose-last h)) n (keyCells k 0 key) below in
+                good-cells l (r .state) (subst (λ (s : Step). Good k (s .bytes) (s .state)) (sym er) w);
+          }
+
+  -- the draws of at most two crossings and a recording
+  pub few-draws : (x y : ℕ) → x ≤ k .rows * k .cols * 4099 → y ≤ 128 * 4098 → x + y < 2 ^ 64
+  few-draws x y hx hy = omega (arith, cells-few k (length g) item-ready)
+
+  pub few-draws-more : (x y z : ℕ) → x ≤ k .rows * k .cols * 4099 → y ≤ 128 * 4098 → z ≤ k .rows * k .cols * 4099 → x + y + z < 2 ^ 64
+  few-draws-more x y z hx hy hz = omega (arith, cells-few k (length g) item-ready)
+
+-- NO ITEM, accepted
+module _ (k : MicroCm) (g : List ℕ) (clock : SubWindowClock) (wrong : Bool) (v : Verdict) (ev : v ≡ moveVerdict k g clock wrong) (ok : Bool) (asked : ok ≡ isAccepted v) (a : not ok ≡ false) where
+  abbrev all : Verdict
+  all = refuseUnsound k g (judgedCells k clock []) Accepted
+
+  let-through : (sketchVerdict k g ≡ Accepted) × (refuse 8 wrong all ≡ Accepted)
+  let-through = gate-passed (refuseSketch k g) (sketch-gate k g) (refuse 8 wrong all) (sym ev ∙ let-pass v ok asked a)
+
+  move-ready : Ready k (length g)
+  move-ready = ready-of k g (let-through .0)
+
+  pub move-cells-fit : k .rows * k .cols < 2 ^ 64
+  move-cells-fit = cells-fit k (length g) move-ready
+
+  pub move-sound : (old new : ℕ) → old ≡ nOf (k .clock) → new ≡ nOf clock → SoundIf (not (eqb new old)) (k .params .t) (k .params .c) (k .rows * k .cols) g
+  move-sound old new eo en =
       record {
-        ready = alike-ready k (k .clock) (after .sketch .rounding .state) (length (after .grid)) refl (rw after-length ready);
-        as-long = item .as-long;
-        grows = item .grows;
-        judged = after-judged (eqb (nOf clock) (nOf (k .clock))) (item .judged);
+        sound =
+            λ h. sound-cells k g move-ready
+            (rose-all k g clock [] (not-refused 8 wrong all (let-through .1) .1) (λ e. eqb-false new old (not-true (eqb new old) h) (en ∙ e ∙ sym eo)));
       }
-
-  pub recorded-movable : (r : Passage) (l : List ℕ) → worldOf r l ≡ recorded key (world k g) → Movable (r .sketch) clock l
-  recorded-movable r l e = subst (λ (w : World). Movable (w .sketch) clock (w .grid)) (sym e) after-movable
-
-  -- AFTER THE MOVE
-  abbrev there : World
-  there = moved clock (world k g)
-
-  there-length : length (there .grid) ≡ length g
-  unfolding moved
-  there-length = cross-each-length k fit (nOf clock) (nOf clock - nOf (k .clock)) g (k .rounding .state) room
-
-  there-fits : keyFits (there .sketch) key ≡ true
-  unfolding moved keyFits
-  there-fits = item .fits
-
-  there-still : nOf clock ≡ nOf (k .clock) → there .grid ≡ g
-  unfolding moved
-  there-still same =
-      let none : nOf clock - nOf (k .clock) ≡ 0 = omega (arith, same) in
-      rw (none, cross-none k (nOf clock) g (k .rounding .state)) refl
-
-  there-judged : (stays : Bool) → eqb (nOf clock) (nOf (k .clock)) ≡ stays → Judged k g (cond stays (keyCells k 0 key) (allCells k)) → Judged (there .sketch) (there .grid) (keyCells (there .sketch) 0 key)
-  unfolding moved
-  there-judged true same w =
-      let σ = there .sketch .rounding .state in
-      rw (there-still (eqb-true _ _ same), alike-cells k clock σ 0 key) (alike-judged k clock σ g (keyCells k 0 key) ∙ w)
-  there-judged false same w =
-      none-unsound Unsound Accepted (there .sketch) (there .grid) (there .sketch .rounding .state) (moved-good (world k g) fit (good w) clock) (keyCells (there .sketch) 0 key)
-      (key-cells-below (there .sketch) 0 key (fits-key (there .sketch) key there-fits))
-
-  there-readable : Readable (there .sketch) key (there .grid)
-  unfolding moved
-  there-readable =
-      record {
-        ready = alike-ready k clock (there .sketch .rounding .state) (length (there .grid)) (item .as-long) (rw there-length ready);
-        fits = there-fits;
-        judged = there-judged (eqb (nOf clock) (nOf (k .clock))) refl (item .judged);
-      }
-
-  pub moved-readable : (r : Passage) (l : List ℕ) → worldOf r l ≡ moved clock (world k g) → Readable (r .sketch) key l
-  moved-readable r l e = subst (λ (w : World). Readable (w .sketch) key (w .grid)) (sym e) there-readable
-
--- THE TWO HALVES make the whole
-module _ (k : MicroCm) (key g m l : List ℕ) (clock : SubWindowClock) (p r : Passage) where
-  pub recorded-then : worldOf p m ≡ recorded key (world k g) → worldOf r l ≡ moved clock (worldOf p m) → worldOf r l ≡ moved clock (recorded key (world k g))
-  recorded-then ep er = er ∙ ap (moved clock) ep
-
-  pub moved-then : worldOf p m ≡ moved clock (world k g) → worldOf r l ≡ recorded key (worldOf p m) → worldOf r l ≡ recorded key (moved clock (world k g))
-  moved-then ep er = er ∙ ap (recorded key) ep

@@ -1,33 +1,15 @@
 // Document 01, "Sketch and grid": the calls that count.
 //
-// A call judges first and writes after: a refused one leaves the sketch and every byte of the grid as they came.
+// A call judges first and writes after: a refused one leaves the sketch and every byte of the grid as they came. A slice is
+// handed on as a part, `&key[..]`: whole, it would be copied through memory at each call.
 mod judge;
 mod recording;
 mod worker;
 
 use microscope::MicroCm;
 use microscope::SketchAnswer;
-use refusal::Verdict;
 ghost use mathlib.Core.Path.{_≡_};
 ghost use Rattle.microscope.specs.Refusals.{sketchOutcome, updateCall, updateAtCall, advanceCall};
-ghost use Rattle.counting.specs.Workers.{answerOf};
-
-// A sketch on its way through a call, and how many draws the call has made so far.
-struct Passage {
-    sketch: MicroCm,
-    draws: u64,
-}
-
-fn answer(verdict: Verdict, passage: Passage) -> SketchAnswer
-    ensures { λ r. ⌜ r ≡ answerOf verdict passage ⌝ }
-{
-    let sketch = passage.sketch;
-    SketchAnswer {
-        verdict,
-        sketch,
-        draws: passage.draws,
-    }
-}
 
 // One item on a clock of items. It is counted in the sub-window that it finds: the tick comes after it.
 pub fn update(sketch: MicroCm, key: &[u32], grid: &mut [u8]) -> SketchAnswer
@@ -36,22 +18,22 @@ pub fn update(sketch: MicroCm, key: &[u32], grid: &mut [u8]) -> SketchAnswer
     let clock = sketch.clock;
     let after = clock::worker::ticked(clock);
     let old = clock::worker::sub_window(clock);
-    let new = clock::worker::sub_window(after);
-    let verdict = judge::item(
-        sketch,
-        key,
-        grid,
-        after,
-        new != old,
-        !clock::worker::is_count(clock),
-    );
+    let new = clock::worker::next_sub_window(clock, old);
+    let wrong = !clock::worker::is_count(clock);
+    let counted = worker::count(sketch, &key[..], grid, after, old, new, old, wrong);
+    let verdict = counted.verdict;
     if !verdict.accepted() {
-        return answer(verdict, Passage { sketch, draws: 0 });
+        return SketchAnswer {
+            verdict,
+            sketch,
+            draws: 0,
+        };
     }
-    answer(
+    SketchAnswer {
         verdict,
-        worker::record_and_move(sketch, key, after, old, new, grid),
-    )
+        sketch: worker::went_on(sketch, after, counted.state),
+        draws: counted.draws,
+    }
 }
 
 // One item on a clock of time. It is counted in the sub-window of its own time: the clock is moved before it.
@@ -62,21 +44,21 @@ pub fn update_at(sketch: MicroCm, key: &[u32], timestamp: u64, grid: &mut [u8]) 
     let after = clock::worker::advanced(clock, timestamp);
     let old = clock::worker::sub_window(clock);
     let new = clock::worker::sub_window(after);
-    let verdict = judge::item(
-        sketch,
-        key,
-        grid,
-        after,
-        new != old,
-        clock::worker::is_count(clock),
-    );
+    let wrong = clock::worker::is_count(clock);
+    let counted = worker::count(sketch, &key[..], grid, after, old, new, new, wrong);
+    let verdict = counted.verdict;
     if !verdict.accepted() {
-        return answer(verdict, Passage { sketch, draws: 0 });
+        return SketchAnswer {
+            verdict,
+            sketch,
+            draws: 0,
+        };
     }
-    answer(
+    SketchAnswer {
         verdict,
-        worker::move_and_record(sketch, key, after, old, new, grid),
-    )
+        sketch: worker::went_on(sketch, after, counted.state),
+        draws: counted.draws,
+    }
 }
 
 // Time passes without an item.
@@ -84,19 +66,33 @@ pub fn advance_to(sketch: MicroCm, timestamp: u64, grid: &mut [u8]) -> SketchAns
     ensures { λ r. ⌜ sketchOutcome r (now (grid .exit)) ≡ advanceCall sketch timestamp (now (grid .entry)) ⌝ }
 {
     let clock = sketch.clock;
-    let start = Passage { sketch, draws: 0 };
+    let rounding = sketch.rounding;
+    let params = sketch.params;
     let after = clock::worker::advanced(clock, timestamp);
     let old = clock::worker::sub_window(clock);
     let new = clock::worker::sub_window(after);
-    let verdict = judge::movement(
-        sketch,
-        grid,
-        after,
-        new != old,
-        clock::worker::is_count(clock),
-    );
+    let wrong = clock::worker::is_count(clock);
+    let verdict = judge::movement(sketch, &grid[..], after, new != old, wrong);
     if !verdict.accepted() {
-        return answer(verdict, start);
+        return SketchAnswer {
+            verdict,
+            sketch,
+            draws: 0,
+        };
     }
-    answer(verdict, worker::move_to(start, after, old, new, grid))
+    let moved = worker::moved(
+        sketch.rows * sketch.cols,
+        params.t,
+        params.c,
+        new != old,
+        old,
+        new,
+        rounding.state,
+        grid,
+    );
+    SketchAnswer {
+        verdict,
+        sketch: worker::went_on(sketch, after, moved.state),
+        draws: moved.draws,
+    }
 }

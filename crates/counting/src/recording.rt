@@ -11,8 +11,8 @@ ghost use lib.ListN.{length};
 ghost use Rattle.laws.specs.Passes.{eachOf};
 ghost use Rattle.cell.specs.Cell.{depthOf, slotOf, soundOf};
 ghost use Rattle.cell.specs.Workers.{stepOf};
-ghost use Rattle.microscope.specs.Sketch.{cellsOf, cellOf, keyCells, allCells, insertAt, insertEach, crossEach};
-ghost use Rattle.microscope.specs.Workers.{Ready, Judged, Readable, SoundCells, passOf};
+ghost use Rattle.microscope.specs.Sketch.{cellsOf, cellOf, keyCells, insertAt, insertEach};
+ghost use Rattle.microscope.specs.Workers.{Ready, Readable, SoundCells, passOf};
 ghost use Rattle.counting.specs.Workers.{crossPiece};
 
 fn insert_at(
@@ -50,7 +50,7 @@ pub fn insert_each(sketch: MicroCm, key: &[u32], grid: &mut [u8], n: u64, state:
         let drawn = insert_at(
             sketch,
             grid,
-            grid::key_cell(sketch, key, row),
+            grid::key_cell(sketch, &key[..], row),
             n,
             slot,
             after,
@@ -65,8 +65,8 @@ pub fn insert_each(sketch: MicroCm, key: &[u32], grid: &mut [u8], n: u64, state:
     }
 }
 
-// So many cells, one after another.
-fn cross_cells(
+// So many cells, in grid order.
+pub fn cross_cells(
     grid: &mut [u8],
     t: usize,
     c: u32,
@@ -105,22 +105,4 @@ fn cross_cells(
         state: after,
         draws,
     }
-}
-
-// Every cell, in grid order.
-pub fn cross_each(sketch: MicroCm, grid: &mut [u8], n: u64, crossed: u64, state: u64) -> Passed
-    requires { ⌜ Ready sketch (length (now grid)) × Judged sketch (now grid) (allCells sketch) × (crossed ≤ n) ⌝ }
-    ensures { λ r. ⌜ passOf (now (grid .exit)) r ≡ crossEach sketch n crossed (now (grid .entry)) state ⌝ }
-    ensures { λ r. ⌜ r .draws ≤ cellsOf sketch * 4099 ⌝ }
-{
-    let params = sketch.params;
-    cross_cells(
-        grid,
-        params.t,
-        params.c,
-        sketch.rows * sketch.cols,
-        n,
-        crossed,
-        state,
-    )
 }

@@ -1,5 +1,6 @@
 -- `advance_to`: as `update_at` without an item: the clock alone is moved.
-use Rattle.counting.proofs.CallLaws.{time-movable, advance-refused, advance-done}
+use Rattle.counting.proofs.CallLaws.{advance-refused, advance-done}
+use Rattle.counting.proofs.KeptLaws.{move-cells-fit, move-sound}
 use Rattle.counting.proofs.VerdictCases.{crosses-told}
 use borrow.Author.Needs.{needs}
 use Rattle.counting.proofs.advance_to.Statement.{statement}
@@ -23,20 +24,20 @@ movement-requires c κs = search (crosses-told, needs)
 accepted-requires : tie.Need-accepted-requires
 accepted-requires c κs = search needs
 
-answer-requires : tie.Need-answer-requires
-answer-requires c κs = search needs
-
 same-length : tie.Need-same-length
 same-length c = search needs
 
 returns : tie.Need-returns
 returns c = search (advance-refused, needs)
 
-move-to-requires : tie.Need-move-to-requires
-move-to-requires c κs = ((search (time-movable, needs), search needs), (search needs, search needs))
+mul-moved : tie.Need-mul-moved
+mul-moved c = record { fits = search (move-cells-fit, needs) }
 
-answer-requires-2 : tie.Need-answer-requires-2
-answer-requires-2 c κs = search needs
+moved-requires : tie.Need-moved-requires
+moved-requires c κs = (search (move-sound, needs), search needs)
+
+went-on-requires : tie.Need-went-on-requires
+went-on-requires c κs = search needs
 
 same-length-2 : tie.Need-same-length-2
 same-length-2 c = search needs
@@ -54,10 +55,10 @@ advance-to-spec =
     is-count-requires
     movement-requires
     accepted-requires
-    answer-requires
     same-length
     returns
-    move-to-requires
-    answer-requires-2
+    mul-moved
+    moved-requires
+    went-on-requires
     same-length-2
     returns-2)

@@ -1,7 +1,5 @@
--- `update`: all is judged before the first byte is written, and either way out is what the definition gives there.
-use Rattle.counting.proofs.CallLaws.{item-judged, update-refused, update-done}
-use Rattle.counting.proofs.VerdictCases.{crosses-told}
-use mathlib.Core.Bool.{not}
+-- `update`: the item is one of the sub-window that it finds, and either way out is what the definition gives there.
+use Rattle.counting.proofs.CallLaws.{ticked-windows, update-refused, update-done}
 use borrow.Author.Needs.{needs}
 use Rattle.counting.proofs.update.Statement.{statement}
 use Rattle.counting.proofs.update.Tie as tie
@@ -12,38 +10,38 @@ ticked-requires c κs = search needs
 sub-window-requires : tie.Need-sub-window-requires
 sub-window-requires c κs = search needs
 
-sub-window-requires-2 : tie.Need-sub-window-requires-2
-sub-window-requires-2 c κs = search needs
+next-sub-window-requires : tie.Need-next-sub-window-requires
+next-sub-window-requires c κs = search needs
 
 is-count-requires : tie.Need-is-count-requires
 is-count-requires c κs = search needs
 
-item-requires : tie.Need-item-requires
-item-requires c κs = search (crosses-told, needs)
+count-requires : tie.Need-count-requires
+count-requires c κs = search (ticked-windows, needs)
 
 accepted-requires : tie.Need-accepted-requires
 accepted-requires c κs = search needs
-
-answer-requires : tie.Need-answer-requires
-answer-requires c κs = search needs
 
 same-length : tie.Need-same-length
 same-length c = search needs
 
 returns : tie.Need-returns
-returns c = search (update-refused, needs)
+returns c =
+    let b = c .before .before .before .before in
+    let a = b .before .before .before .before .before .before .before .before .args in
+    update-refused (a .sketch) _ (b .before .before .before .before .before .ticked .result) (b .before .before .is-count .result) (b .before .before .is-count .ensures) _ _ _ _ _ (b .before .before .before .before .before .ticked .ensures) (b .count .ensures .0) (b .count .ensures .1) _ (c .before .accepted .ensures) (c .if1 .taken)
 
-record-and-move-requires : tie.Need-record-and-move-requires
-record-and-move-requires c κs = (item-judged _ _ _ _ (not (c .before .before .before .before .is-count .result)) _ (c .before .before .before .item .ensures) _ (c .before .before .accepted .ensures) (search needs) _ (c .before .before .before .before .before .before .before .before .ticked .ensures), search needs, search needs)
-
-answer-requires-2 : tie.Need-answer-requires-2
-answer-requires-2 c κs = search needs
+went-on-requires : tie.Need-went-on-requires
+went-on-requires c κs = search needs
 
 same-length-2 : tie.Need-same-length-2
 same-length-2 c = search needs
 
 returns-2 : tie.Need-returns-2
-returns-2 c = search (update-done, needs)
+returns-2 c =
+    let b = c .before .before .before .before .before in
+    let a = b .before .before .before .before .before .before .before .before .args in
+    update-done (a .sketch) _ (b .before .before .before .before .before .ticked .result) (b .before .before .is-count .result) (b .before .before .is-count .ensures) _ _ _ _ _ (b .before .before .before .before .before .ticked .ensures) (b .count .ensures .0) (b .count .ensures .1) _ (c .before .before .accepted .ensures) (c .before .if1 .left) (ticked-windows _ _ _ _ (b .before .before .before .before .sub-window .ensures) (b .before .before .before .before .before .ticked .ensures) (b .before .before .before .next-sub-window .ensures)) _ (c .went-on .ensures)
 
 pub update-spec : {M : Type 1} → statement M
 update-spec =
@@ -51,14 +49,12 @@ update-spec =
     (tie.spec
     ticked-requires
     sub-window-requires
-    sub-window-requires-2
+    next-sub-window-requires
     is-count-requires
-    item-requires
+    count-requires
     accepted-requires
-    answer-requires
     same-length
     returns
-    record-and-move-requires
-    answer-requires-2
+    went-on-requires
     same-length-2
     returns-2)

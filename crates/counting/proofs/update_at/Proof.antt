@@ -1,6 +1,5 @@
--- `update_at`: as `update`, in the other order and with the clock of time.
-use Rattle.counting.proofs.CallLaws.{item-judged, update-at-refused, update-at-done}
-use Rattle.counting.proofs.VerdictCases.{crosses-told}
+-- `update_at`: as `update`, with the item in the sub-window of its own time.
+use Rattle.counting.proofs.CallLaws.{advanced-windows, update-at-refused, update-at-done}
 use borrow.Author.Needs.{needs}
 use Rattle.counting.proofs.update_at.Statement.{statement}
 use Rattle.counting.proofs.update_at.Tie as tie
@@ -17,32 +16,32 @@ sub-window-requires-2 c κs = search needs
 is-count-requires : tie.Need-is-count-requires
 is-count-requires c κs = search needs
 
-item-requires : tie.Need-item-requires
-item-requires c κs = search (crosses-told, needs)
+count-requires : tie.Need-count-requires
+count-requires c κs = search (advanced-windows, needs)
 
 accepted-requires : tie.Need-accepted-requires
 accepted-requires c κs = search needs
-
-answer-requires : tie.Need-answer-requires
-answer-requires c κs = search needs
 
 same-length : tie.Need-same-length
 same-length c = search needs
 
 returns : tie.Need-returns
-returns c = search (update-at-refused, needs)
+returns c =
+    let b = c .before .before .before .before in
+    let a = b .before .before .before .before .before .before .before .before .args in
+    update-at-refused (a .sketch) _ (b .before .before .before .before .before .advanced .result) (b .before .before .is-count .result) (b .before .before .is-count .ensures) _ (b .before .before .before .before .before .advanced .ensures) _ _ _ _ _ (b .count .ensures .0) (b .count .ensures .1) _ (c .before .accepted .ensures) (c .if1 .taken)
 
-move-and-record-requires : tie.Need-move-and-record-requires
-move-and-record-requires c κs = (search (item-judged, needs), search needs, search needs)
-
-answer-requires-2 : tie.Need-answer-requires-2
-answer-requires-2 c κs = search needs
+went-on-requires : tie.Need-went-on-requires
+went-on-requires c κs = search needs
 
 same-length-2 : tie.Need-same-length-2
 same-length-2 c = search needs
 
 returns-2 : tie.Need-returns-2
-returns-2 c = search (update-at-done, needs)
+returns-2 c =
+    let b = c .before .before .before .before .before in
+    let a = b .before .before .before .before .before .before .before .before .args in
+    update-at-done (a .sketch) _ (b .before .before .before .before .before .advanced .result) (b .before .before .is-count .result) (b .before .before .is-count .ensures) _ (b .before .before .before .before .before .advanced .ensures) _ _ _ _ _ (b .count .ensures .0) (b .count .ensures .1) _ (c .before .before .accepted .ensures) (c .before .if1 .left) (advanced-windows _ _ _ _ (b .before .before .before .before .sub-window .ensures) _ (b .before .before .before .before .before .advanced .ensures) (b .before .before .before .sub-window2 .ensures)) _ (c .went-on .ensures)
 
 pub update-at-spec : {M : Type 1} → statement M
 update-at-spec =
@@ -52,12 +51,10 @@ update-at-spec =
     sub-window-requires
     sub-window-requires-2
     is-count-requires
-    item-requires
+    count-requires
     accepted-requires
-    answer-requires
     same-length
     returns
-    move-and-record-requires
-    answer-requires-2
+    went-on-requires
     same-length-2
     returns-2)
