@@ -5,21 +5,24 @@ use mathlib.Core.Path.{_≡_, refl, sym, ap, _∙_}
 use mathlib.Core.Bool.{Bool, true, false, not}
 use mathlib.Core.List.{List, _++_}
 use lib.ListN.{length, take, drop, getD, length-take}
-use native.Mathlib.Nat.{add-assoc, zero-add, add-zero, mod-lt, one-le-pow}
+use native.Mathlib.Nat.{add-assoc, zero-add, add-zero, mod-lt, mod-eq-of-lt, mod-eq-sub-mod, div-eq-of-lt, div-eq-of-lt-le, div-lt-iff-lt-mul}
 use native.Mathlib.Omega.{arith}
 use borrow.Author.Tests.{not-true, not-false}
 use Rattle.laws.specs.Steps.{Step}
 use Rattle.cell.specs.declared.Drawn.{Drawn}
+use Rattle.merging.specs.declared.merge.Carry.{Carry}
 use Rattle.merging.specs.declared.sums.Summed.{Summed}
 use Rattle.cell.specs.Cell.{pixelsOf, depthOf, slotOf, pixelsIn, zoomOf, shutterOf, withPixels, withZoom, withShutter, maxZoom}
 use Rattle.cell.specs.Insertion.{divideEach}
 use Rattle.cell.specs.Crossing.{allAtMost}
 use Rattle.cell.specs.Merge.{addEach, cutEach, Settled, settledLater, settleFrom, settleOf, withCarry, mergedWith, mergeOf}
 use Rattle.cell.specs.Workers.{stepOf}
-use Rattle.merging.specs.Workers.{settledOf, sumsOf}
+use Rattle.merging.specs.Workers.{Pair, Carried, flatSums, settledOf, sumsOf}
 use Rattle.cell.proofs.DivideLaws.{divide-draws}
-use Rattle.cell.proofs.PowerLaws.{max-zoom-limit, zoom-fits}
+use Rattle.cell.proofs.PowerLaws.{max-zoom-limit}
+use Rattle.cell.proofs.MergeLaws.{target-fits, target-positive, carry-le}
 use Rattle.cell.proofs.SumsLaws.{most-at, cut-low, settle-fit, settle-raise, settle-few}
+use Rattle.merging.proofs.MergeLoops.{flat-is}
 
 -- SETTLE: the zoom is z by now, and the sums are l
 pub record Settling (c z₀ : ℕ) (l₀ : List ℕ) (σ : ℕ) (l : List ℕ) (s n z : ℕ) : Type 0 where
@@ -75,21 +78,20 @@ module _ (t c target p z z' : ℕ) (b src : List ℕ) (σ : ℕ) (ez : z ≡ zoo
       → stepOf l r ≡ addEach c (target - zoomOf t b) (target - zoomOf t src) (pixelsIn t b) (pixelsIn t src) σ
   added-is l r e = rw (ez, ez', ep) at e
 
+  pub added-flat : target - z ≡ 0 → target - z' ≡ 0 → (l : List ℕ) → l ≡ flatSums (take p b) (take p src)
+      → record { bytes = l; state = σ; draws = 0 } ≡ addEach c (target - zoomOf t b) (target - zoomOf t src) (pixelsIn t b) (pixelsIn t src) σ
+  added-flat d d' l e = rw (← ez, ← ez', ← ep, d, d', e) (sym (flat-is c (take p b) (take p src) σ))
+
 -- THE SUMS: what the pixels gave, the carry, and what settled
 pub carry-fits : (l : List ℕ) (slot carry : ℕ) → allAtMost 510 l ≡ true → carry ≤ 1 → getD l slot 0 + carry < 2 ^ 32
 carry-fits l slot carry low h = omega (arith, most-at 510 l slot low)
 
-pub carry-in : (t n slot : ℕ) (l₀ l : List ℕ) → slot ≡ slotOf t n → length l ≡ length l₀ → length l₀ ≡ pixelsOf t → slot < length l
-carry-in t n slot l₀ l e same many =
-    let positive : 0 < pixelsOf t = omega arith in
-    rw e (omega (arith, mod-lt n positive))
-
 module _ (t c target slot carry : ℕ) (b src : List ℕ) (σ : ℕ) (l l' l'' : List ℕ) (r : Drawn) (r' : Summed)
     (ea : stepOf l r ≡ addEach c (target - zoomOf t b) (target - zoomOf t src) (pixelsIn t b) (pixelsIn t src) σ)
     (ec : l' ≡ withCarry slot carry l) (es : settledOf l'' r' ≡ settleOf c target l' (r .state)) where
-  pub sums-are : (n : ℕ) → slot ≡ slotOf t n → record { zoom = r' .zoom; sums = record { bytes = l''; state = r' .state; draws = r .draws + r' .draws } } ≡ sumsOf t c target (slotOf t n) carry b src σ
+  pub sums-are : record { zoom = r' .zoom; sums = record { bytes = l''; state = r' .state; draws = r .draws + r' .draws } } ≡ sumsOf t c target slot carry b src σ
   unfolding sumsOf
-  sums-are n e = rw (← ea, ← e, ← ec) (ap (settledLater (r .draws)) es)
+  sums-are = rw (← ea, ← ec) (ap (settledLater (r .draws)) es)
 
 -- STORE
 pub store-paired : (t p : ℕ) (b sums : List ℕ) → p ≡ pixelsOf t → length b ≡ depthOf t → length sums ≡ pixelsOf t → length sums ≡ length (take p b)
@@ -99,21 +101,42 @@ pub stored-is : (t p z s : ℕ) (b sums l l' l'' : List ℕ) → p ≡ pixelsOf 
     → l'' ≡ withShutter t s (withZoom t z (withPixels t sums b))
 stored-is t p z s b sums l l' l'' e el el' el'' = rw (el'', el', el, e) refl
 
--- what makes no whole unit
-module _ (c z unit : ℕ) (base : 2 ≤ c) (eu : unit ≡ c ^ z) where
-  pub rest-unit : 0 < unit
-  rest-unit = rw eu (one-le-pow z c (omega arith))
+-- THE CARRY: two shutters are below two units, of which they make one or none
+module _ (t c : ℕ) (b src : List ℕ) (p : Pair t c b src) (target : ℕ) (et : target ≡ max (zoomOf t b) (zoomOf t src)) where
+  pub unit-fits : c ^ target ≤ 2 ^ 32 - 1
+  unit-fits = target-fits t c b src (p .sound) (p .sound-src) (p .fit .c-low) target et
 
-  pub rest-fits : z ≤ maxZoom c → (s : ℕ) → s % unit < 2 ^ 32
-  rest-fits low s = omega (arith, mod-lt s rest-unit, zoom-fits c base z low)
+  module _ (unit shutters : ℕ) (eu : unit ≡ c ^ target) (es : shutters ≡ shutterOf t b + shutterOf t src) where
+    below : shutters < 2 * unit
+    below =
+        div-lt-iff-lt-mul (target-positive t c b src (p .sound) (p .sound-src) (p .fit .c-low) target et unit shutters eu es) .0
+        (omega (arith, carry-le t c b src (p .sound) (p .sound-src) (p .fit .c-low) target et unit shutters eu es))
 
-  pub rest-is : (s : ℕ) → s % unit ≡ s % c ^ z
-  rest-is s = rw eu refl
+    pub rest-fits : shutters - unit < 2 ^ 32
+    rest-fits = omega (arith, below, unit-fits)
+
+    pub carry-one : unit ≤ shutters → Carried (shutterOf t b + shutterOf t src) (c ^ target) (record { units = 1; rest = shutters - unit })
+    carry-one h =
+        let low : shutters - unit < unit = omega (arith, below) in
+        rw (← es, ← eu)
+        (record {
+          units-are = sym (div-eq-of-lt-le unit (omega arith) (omega (arith, below)));
+          rest-is = sym (mod-eq-sub-mod h ∙ mod-eq-of-lt low);
+          few = omega arith;
+        })
+
+    pub shutters-fit : shutters < unit → shutters < 2 ^ 32
+    shutters-fit h = omega (arith, unit-fits)
+
+    pub carry-none : shutters < unit → Carried (shutterOf t b + shutterOf t src) (c ^ target) (record { units = 0; rest = shutters })
+    carry-none h = rw (← es, ← eu) (record { units-are = sym (div-eq-of-lt h); rest-is = sym (mod-eq-of-lt h); few = omega arith })
 
 -- THE MERGE
 module _ (t c : ℕ) (b src : List ℕ) (target : ℕ) (et : target ≡ max (zoomOf t b) (zoomOf t src))
-    (unit shutters : ℕ) (eu : unit ≡ c ^ target) (es : shutters ≡ shutterOf t b + shutterOf t src) where
-  pub merged-is : (n : ℕ) (σ : ℕ) (sums l : List ℕ) (r : Summed) (rest : ℕ) → settledOf sums r ≡ sumsOf t c target (slotOf t n) (shutters / unit) b src σ
-      → rest ≡ shutters % c ^ target → l ≡ withShutter t rest (withZoom t (r .zoom) (withPixels t sums b)) → record { bytes = l; state = r .state; draws = r .draws } ≡ mergeOf t c n b src σ
+    (carry : Carry) (ec : Carried (shutterOf t b + shutterOf t src) (c ^ target) carry) where
+  pub merged-is : (n slot : ℕ) → slot ≡ slotOf t n → (σ : ℕ) (sums l : List ℕ) (r : Summed) → settledOf sums r ≡ sumsOf t c target slot (carry .units) b src σ
+      → l ≡ withShutter t (carry .rest) (withZoom t (r .zoom) (withPixels t sums b)) → record { bytes = l; state = r .state; draws = r .draws } ≡ mergeOf t c n b src σ
   unfolding mergeOf sumsOf
-  merged-is n σ sums l r rest e er el = rw (el, er, es, et) (ap (mergedWith t ((shutterOf t b + shutterOf t src) % c ^ max (zoomOf t b) (zoomOf t src)) b) (rw (es, eu, et) at e))
+  merged-is n slot en σ sums l r e el =
+      rw (el, ec .rest-is, et)
+      (ap (mergedWith t ((shutterOf t b + shutterOf t src) % c ^ max (zoomOf t b) (zoomOf t src)) b) (rw (ec .units-are, en, et) at e))

@@ -3,19 +3,20 @@
 use Prim.Native.Nat.{ℕ, suc, _+_, _-_, _*_, _/_, _^_, _≤_, _<_, min}
 use mathlib.Core.Path.{_≡_, refl, sym, ap, _∙_}
 use mathlib.Core.Bool.{true}
-use mathlib.Core.List.{List, _∷_, _++_, append-assoc, append-nil}
+use mathlib.Core.List.{List, [], _∷_, _++_, append-assoc, append-nil}
 use lib.ListN.{length, take, drop, getD, set, length-set, drop-of-length-le}
 use lib.Seq.{drop-cons, take-suc, take-suc-set, drop-set-lt, take-all, set-at, length-take-le}
 use native.Mathlib.Nat.{add-assoc, zero-add, add-zero, div-le-of-le-mul}
 use native.Mathlib.Numerals.{add-one}
 use native.Mathlib.Omega.{arith}
-use Rattle.laws.specs.Steps.{Step}
+use Rattle.laws.specs.Steps.{Step, still}
 use Rattle.rounding.specs.declared.Divided.{Divided}
 use Rattle.rounding.specs.Draws.{roundedDiv}
 use Rattle.rounding.proofs.DivisionLaws.{value-le}
 use Rattle.cell.specs.Insertion.{front, divideEach}
 use Rattle.cell.specs.Crossing.{allAtMost}
 use Rattle.cell.specs.Merge.{delayed, scaleDown, addPair, addEach, cutEach}
+use Rattle.merging.specs.Workers.{flatSums}
 use Rattle.cell.proofs.DivideLaws.{divide-draws}
 use Rattle.cell.proofs.SumsLaws.{scale-draws, scale-value, add-few, most-at, most-one-more}
 
@@ -119,6 +120,45 @@ module _ (c down down' : ℕ) (xs ys : List ℕ) (σ : ℕ) where
             low = rw (add-one i, take-suc-set zs i (d .value) hz) (most-one-more 510 (take i zs) (d .value) (w .low) small);
             same = length-set zs i (d .value) ∙ w .same;
           }
+
+-- ADD FLAT: with no level to come down, nothing is drawn
+pub flat-is : (c : ℕ) (xs ys : List ℕ) (σ : ℕ) → addEach c 0 0 xs ys σ ≡ still (flatSums xs ys) σ
+unfolding addEach addPair scaleDown flatSums
+flat-is c [] ys σ = refl
+flat-is c (x ∷ xs) [] σ = refl
+flat-is c (x ∷ xs) (y ∷ ys) σ = rw (flat-is c xs ys σ) refl
+
+flat-cons : (x : ℕ) (xs : List ℕ) (y : ℕ) (ys : List ℕ) → flatSums (x ∷ xs) (y ∷ ys) ≡ (x + y) ∷ flatSums xs ys
+unfolding flatSums
+flat-cons x xs y ys = refl
+
+pub record Flat (xs ys zs : List ℕ) (i : ℕ) : Type 0 where
+  pub done : flatSums xs ys ≡ take i zs ++ flatSums (drop i xs) (drop i ys)
+  pub low : allAtMost 510 (take i zs) ≡ true
+  pub same : length zs ≡ length xs
+
+module _ (xs ys : List ℕ) where
+  pub flat-begin : (zs : List ℕ) → length zs ≡ length xs → Flat xs ys zs 0
+  unfolding allAtMost
+  flat-begin zs h = record { done = refl; low = refl; same = h }
+
+  module _ (zs : List ℕ) (i : ℕ) (w : Flat xs ys zs i) where
+    pub flat-end : length xs ≤ i → zs ≡ flatSums xs ys
+    unfolding flatSums
+    flat-end h = sym (w .done ∙ rw (drop-of-length-le xs h, take-all i zs (omega (arith, w .same))) (append-nil zs))
+
+    pub flat-low : length xs ≤ i → allAtMost 510 zs ≡ true
+    flat-low h = rw (take-all i zs (omega (arith, w .same))) at (w .low)
+
+    pub flat-on : (v v' : ℕ) → i < length xs → length ys ≡ length xs → v ≡ getD xs i 0 → v' ≡ getD ys i 0 → v < 256 → v' < 256 → Flat xs ys (set zs i (v + v')) (i + 1)
+    flat-on v v' h paired e e' small small' =
+        let hy : i < length ys = omega arith in
+        let hz : i < length zs = omega (arith, w .same) in
+        record {
+          done = w .done ∙ rw (drop-cons xs i 0 h, drop-cons ys i 0 hy, flat-cons, ← e, ← e') (simp (add-one, take-suc-set, append-assoc));
+          low = rw (add-one i, take-suc-set zs i (v + v') hz) (most-one-more 510 (take i zs) (v + v') (w .low) (omega arith));
+          same = length-set zs i (v + v') ∙ w .same;
+        }
 
 -- DIVIDE EACH
 divide-cons : (c v : ℕ) (vs : List ℕ) (σ : ℕ) → divideEach c (v ∷ vs) σ ≡ front (roundedDiv v c σ) (divideEach c vs (roundedDiv v c σ .state))

@@ -11,14 +11,20 @@ use refusal::Verdict;
 use rounding::Rounding;
 ghost use mathlib.Core.Path.{_≡_};
 ghost use mathlib.Core.Bool.{true};
-ghost use Prim.Native.Nat.{_+_, _%_, _^_, _≤_, max};
+ghost use Prim.Native.Nat.{_+_, _^_, _≤_, max};
 ghost use lib.ListN.{length};
-ghost use Rattle.cell.specs.Cell.{pixelsOf, depthOf, zoomOf, shutterOf, withPixels, withZoom, withShutter, maxZoom};
+ghost use Rattle.cell.specs.Cell.{pixelsOf, depthOf, slotOf, zoomOf, shutterOf, withPixels, withZoom, withShutter};
 ghost use Rattle.cell.specs.Crossing.{allAtMost};
 ghost use Rattle.cell.specs.Merge.{mergeOf};
 ghost use Rattle.cell.specs.Refusals.{cellOutcome, mergeCall};
 ghost use Rattle.cell.specs.Workers.{stepOf};
-ghost use Rattle.merging.specs.Workers.{Pair, PairJudged};
+ghost use Rattle.merging.specs.Workers.{Pair, PairJudged, Carried};
+
+// What two shutters make: whole units of the target for the pixel of n, and what is left in the shutter.
+struct Carry {
+    units: u32,
+    rest: u32,
+}
 
 // Two cells judged for a merge: 1, 2, 5, 6, 14.
 pub fn judge(dst: &[u8], src: &[u8], params: MicroParams, state: u64) -> Verdict
@@ -68,10 +74,11 @@ pub fn merge_cells(dst: &mut [u8], src: &[u8], t: usize, c: u32, n: u64, state: 
     ensures { λ r. ⌜ stepOf (now (dst .exit)) r ≡ mergeOf t c n (now (dst .entry)) (now (src .entry)) state ⌝ }
 {
     let mut work = [0u32; 4098];
-    merge_within(dst, src, &mut work, t, c, n, state)
+    merge_within(dst, src, &mut work, t, c, n, layout::slot(t, n), state)
 }
 
-// The same in an array that the caller lends, so that a merge of many cells makes one.
+// The same in an array that the caller lends, so that a merge of many cells makes one. The caller knows the pixel of n
+// too, so that they share one division.
 pub fn merge_within(
     dst: &mut [u8],
     src: &[u8],
@@ -79,14 +86,15 @@ pub fn merge_within(
     t: usize,
     c: u32,
     n: u64,
+    slot: usize,
     state: u64,
 ) -> Drawn
-    requires { ⌜ Pair t c (now dst) (now src) ⌝ }
+    requires { ⌜ Pair t c (now dst) (now src) × (slot ≡ slotOf t n) ⌝ }
     requires { ⌜ length (now work) ≡ 4098 ⌝ }
     ensures { λ r. ⌜ stepOf (now (dst .exit)) r ≡ mergeOf t c n (now (dst .entry)) (now (src .entry)) state ⌝ }
 {
     let pixels = layout::pixels(t);
-    merge_by(dst, src, &mut work[..pixels], t, c, n, state)
+    merge_by(dst, &src[..], &mut work[..pixels], t, c, n, slot, state)
 }
 
 // The same, with a sum for each pixel.
@@ -97,18 +105,28 @@ fn merge_by(
     t: usize,
     c: u32,
     n: u64,
+    slot: usize,
     state: u64,
 ) -> Drawn
-    requires { ⌜ Pair t c (now dst) (now src) ⌝ }
+    requires { ⌜ Pair t c (now dst) (now src) × (slot ≡ slotOf t n) ⌝ }
     requires { ⌜ length (now sums) ≡ pixelsOf t ⌝ }
     ensures { λ r. ⌜ stepOf (now (dst .exit)) r ≡ mergeOf t c n (now (dst .entry)) (now (src .entry)) state ⌝ }
 {
-    let target = larger_zoom(&dst[..], src, t);
-    let unit = power::unit(c, target);
-    let shutters = both_shutters(&dst[..], src, t);
-    let summed = sums::sum_up(sums, &dst[..], src, t, c, target, n, shutters / unit, state);
+    let target = larger_zoom(&dst[..], &src[..], t);
+    let carry = carry_of(&dst[..], &src[..], t, c, target);
+    let summed = sums::sum_up(
+        sums,
+        &dst[..],
+        &src[..],
+        t,
+        c,
+        target,
+        slot,
+        carry.units,
+        state,
+    );
     // The rest is below the unit of the target, and so below that of every zoom above it.
-    store(dst, &sums[..], t, summed.zoom, rest(shutters, c, target));
+    store(dst, &sums[..], t, summed.zoom, carry.rest);
     Drawn {
         state: summed.state,
         draws: summed.draws,
@@ -127,20 +145,31 @@ fn larger_zoom(dst: &[u8], src: &[u8], t: usize) -> u8
     zoom
 }
 
+// Each shutter is below the unit of its own zoom and so of the target: both make one unit at most, and no division is
+// needed.
+fn carry_of(dst: &[u8], src: &[u8], t: usize, c: u32, target: u8) -> Carry
+    requires { ⌜ Pair t c (now dst) (now src) × (target ≡ max (zoomOf t (now dst)) (zoomOf t (now src))) ⌝ }
+    ensures { λ r. ⌜ Carried (shutterOf t (now (dst .entry)) + shutterOf t (now (src .entry))) (c ^ target) r ⌝ }
+{
+    let unit = power::unit(c, target);
+    let shutters = both_shutters(dst, src, t);
+    if unit <= shutters {
+        return Carry {
+            units: 1,
+            rest: (shutters - unit) as u32,
+        };
+    }
+    Carry {
+        units: 0,
+        rest: shutters as u32,
+    }
+}
+
 fn both_shutters(dst: &[u8], src: &[u8], t: usize) -> u64
     requires { ⌜ (t ≤ 4096) × (length (now dst) ≡ depthOf t) × (length (now src) ≡ depthOf t) ⌝ }
     ensures { λ r. ⌜ r ≡ shutterOf t (now (dst .entry)) + shutterOf t (now (src .entry)) ⌝ }
 {
     (layout::shutter(dst, t) as u64) + (layout::shutter(src, t) as u64)
-}
-
-// What makes no whole unit of a zoom.
-fn rest(shutters: u64, c: u32, zoom: u8) -> u32
-    requires { ⌜ (2 ≤ c) × (c ≤ 256) × (zoom ≤ maxZoom c) ⌝ }
-    ensures { λ r. ⌜ r ≡ shutters % c ^ zoom ⌝ }
-{
-    let unit = power::unit(c, zoom);
-    (shutters % unit) as u32
 }
 
 fn store(dst: &mut [u8], sums: &[u32], t: usize, zoom: u8, shutter: u32)

@@ -9,12 +9,12 @@ ghost use mathlib.Core.Bool.{true};
 ghost use Prim.Native.Nat.{_-_, _*_, _^_, _≤_, _<_, min};
 ghost use lib.ListN.{length};
 ghost use Rattle.rounding.specs.Draws.{roundedDiv};
-ghost use Rattle.cell.specs.Cell.{pixelsOf, slotOf, pixelsIn, zoomOf, maxZoom};
+ghost use Rattle.cell.specs.Cell.{pixelsOf, pixelsIn, zoomOf, maxZoom};
 ghost use Rattle.cell.specs.Insertion.{divideEach};
 ghost use Rattle.cell.specs.Crossing.{allAtMost};
 ghost use Rattle.cell.specs.Merge.{scaleDown, addPair, addEach, cutEach, settleOf, withCarry};
 ghost use Rattle.cell.specs.Workers.{Fit, stepOf};
-ghost use Rattle.merging.specs.Workers.{settledOf, sumsOf};
+ghost use Rattle.merging.specs.Workers.{flatSums, settledOf, sumsOf};
 
 // Sums that fit a byte each: the zoom at which they do, and what drawing for them left.
 pub struct Summed {
@@ -31,17 +31,17 @@ pub fn sum_up(
     t: usize,
     c: u32,
     target: u8,
-    n: u64,
-    carry: u64,
+    slot: usize,
+    carry: u32,
     state: u64,
 ) -> Summed
     requires { ⌜ Fit t c (length (now dst)) × Fit t c (length (now src)) × (length (now sums) ≡ pixelsOf t) ⌝ }
-    requires { ⌜ (zoomOf t (now dst) ≤ target) × (zoomOf t (now src) ≤ target) × (target ≤ maxZoom c) × (carry ≤ 1) ⌝ }
-    ensures { λ r. ⌜ settledOf (now (sums .exit)) r ≡ sumsOf t c target (slotOf t n) carry (now (dst .entry)) (now (src .entry)) state ⌝ }
+    requires { ⌜ (zoomOf t (now dst) ≤ target) × (zoomOf t (now src) ≤ target) × (target ≤ maxZoom c) × (slot < pixelsOf t) × (carry ≤ 1) ⌝ }
+    ensures { λ r. ⌜ settledOf (now (sums .exit)) r ≡ sumsOf t c target slot carry (now (dst .entry)) (now (src .entry)) state ⌝ }
     ensures { λ r. ⌜ (allAtMost 255 (now (sums .exit)) ≡ true) × (r .zoom ≤ maxZoom c) ⌝ }
 {
     let added = add_pixels(sums, dst, src, t, c, target, state);
-    add_carry(sums, layout::slot(t, n), carry);
+    add_carry(sums, slot, carry);
     let settled = settle(sums, target, c, added.state);
     Summed {
         zoom: settled.zoom,
@@ -50,11 +50,11 @@ pub fn sum_up(
     }
 }
 
-fn add_carry(sums: &mut [u32], slot: usize, carry: u64)
+fn add_carry(sums: &mut [u32], slot: usize, carry: u32)
     requires { ⌜ (slot < length (now sums)) × (allAtMost 510 (now sums) ≡ true) × (carry ≤ 1) ⌝ }
     ensures { λ _. ⌜ now (sums .exit) ≡ withCarry slot carry (now (sums .entry)) ⌝ }
 {
-    sums[slot] = sums[slot] + (carry as u32);
+    sums[slot] = sums[slot] + carry;
 }
 
 // Each cell's pixels lack the levels from its own zoom up to the target.
@@ -75,7 +75,25 @@ fn add_pixels(
     let down = target - layout::zoom(dst, t);
     let other = target - layout::zoom(src, t);
     let pixels = layout::pixels(t);
+    if down == 0 {
+        if other == 0 {
+            add_flat(sums, &dst[..pixels], &src[..pixels]);
+            return Drawn { state, draws: 0 };
+        }
+    }
     add_each(sums, &dst[..pixels], &src[..pixels], down, other, c, state)
+}
+
+// Cells of one zoom lack no level, so nothing is rounded: the compiler adds many pixels at once.
+fn add_flat(sums: &mut [u32], dst: &[u8], src: &[u8])
+    requires { ⌜ (length (now src) ≡ length (now dst)) × (length (now sums) ≡ length (now dst)) ⌝ }
+    ensures { λ _. ⌜ (now (sums .exit) ≡ flatSums (now (dst .entry)) (now (src .entry))) × (allAtMost 510 (now (sums .exit)) ≡ true) ⌝ }
+{
+    let mut i: usize = 0;
+    while i < dst.len() {
+        sums[i] = layout::wide(dst[i]) + layout::wide(src[i]);
+        i += 1;
+    }
 }
 
 fn add_each(

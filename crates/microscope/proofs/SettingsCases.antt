@@ -1,10 +1,10 @@
 -- The ways through the judges of the settings and the key, in the form in which the code comes to them. Assumes nothing.
-use Prim.Native.Nat.{ℕ, zero, suc, _+_, _-_, _*_, _/_, _^_, _≤_, _<_}
-use mathlib.Core.Path.{_≡_, refl, sym, ap, _∙_}
+use Prim.Native.Nat.{ℕ, zero, suc, _+_, _*_, _^_, _≤_, _<_}
+use mathlib.Core.Path.{_≡_, refl, sym, _∙_}
 use mathlib.Core.Bool.{Bool, true, false, _&&_}
 use mathlib.Core.List.{List}
 use native.Mathlib.Omega.{arith}
-use native.Mathlib.Nat.{mul-le-mul-left, pow-suc}
+use native.Mathlib.Nat.{mul-le-mul-left}
 use native.Mathlib.Numerals.{add-one}
 use lib.Dec.{leb, ltb}
 use lib.ListN.{length, drop, getD, drop-of-length-le}
@@ -13,46 +13,15 @@ use borrow.Author.Tests.{eq-eqb, ne-eqb, le-leb, lt-leb, lt-ltb, le-ltb}
 use Rattle.microscope.specs.declared.MicroCm.{MicroCm}
 use Rattle.microscope.specs.Refusals.{bitsUpTo, gridFits, allBelow, keyFits}
 
--- LOG2 of cols: no power above the present one is cols
-pub record Descending (cols bits power : ℕ) : Type 0 where
-  pub same : bitsUpTo 16 cols ≡ bitsUpTo bits cols
-  pub is : power ≡ 2 ^ bits
-  pub low : bits ≤ 16
+-- LOG2 of cols: none of the first k powers of two is cols
+abbrev pub Missed : ℕ → ℕ → Type 0
+Missed zero cols = Unit
+Missed (suc k) cols = Missed k cols × (cols ≡ 2 ^ suc k → ⊥)
 
-pub descending-begin : (cols : ℕ) → Descending cols 16 65536
-descending-begin cols = record { same = refl; is = refl; low = omega arith }
-
-at-bits : (cols b : ℕ) → 0 < b → cols ≡ 2 ^ b → bitsUpTo b cols ≡ b
+pub missed-bits : (k cols : ℕ) → Missed k cols → 0 ≡ bitsUpTo k cols
 unfolding bitsUpTo
-at-bits cols zero s q = absurd (omega arith)
-at-bits cols (suc b) s q = simp (eq-eqb _ _ q)
-
-past-bits : (cols b : ℕ) → 0 < b → (cols ≡ 2 ^ b → ⊥) → bitsUpTo b cols ≡ bitsUpTo (b - 1) cols
-unfolding bitsUpTo
-past-bits cols zero s q = absurd (omega arith)
-past-bits cols (suc b) s q =
-    let e : suc b - 1 ≡ b = omega arith in
-    rw e (simp (ne-eqb _ _ q))
-
-half-power : (b : ℕ) → 0 < b → 2 ^ b / 2 ≡ 2 ^ (b - 1)
-half-power zero s = absurd (omega arith)
-half-power (suc b) s =
-    let e : suc b - 1 ≡ b = omega arith in
-    rw e (omega (arith, pow-suc 2 b))
-
-module _ (cols bits power : ℕ) (w : Descending cols bits power) where
-  pub descending-found : 0 < bits → cols ≡ power → bits ≡ bitsUpTo 16 cols
-  descending-found some e = sym (w .same ∙ at-bits cols bits some (e ∙ w .is))
-
-  pub descending-on : 0 < bits → (cols ≡ power → ⊥) → Descending cols (bits - 1) (power / 2)
-  descending-on some n =
-      record { same = w .same ∙ past-bits cols bits some (λ q. n (q ∙ sym (w .is))); is = ap (λ (p : ℕ). p / 2) (w .is) ∙ half-power bits some; low = omega (arith, w .low) }
-
-  pub descending-end : bits ≤ 0 → 0 ≡ bitsUpTo 16 cols
-  unfolding bitsUpTo
-  descending-end none =
-      let e : bits ≡ 0 = omega arith in
-      sym (w .same ∙ rw e refl)
+missed-bits zero cols m = refl
+missed-bits (suc k) cols m = simp (ne-eqb _ _ (m .1)) (missed-bits k cols (m .0))
 
 -- THE GRID'S SHAPE
 module _ (rows cols bits : ℕ) (is : bits ≡ bitsUpTo 16 cols) where

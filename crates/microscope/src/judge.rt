@@ -19,16 +19,25 @@ ghost use Rattle.microscope.specs.Workers.{Ready};
 fn column_bits(cols: usize) -> usize
     ensures { λ r. ⌜ (r ≡ bitsUpTo 16 cols) × (r ≤ 16) ⌝ }
 {
-    let mut bits: usize = 16;
-    let mut power: usize = 65536;
-    while bits > 0 {
-        if cols == power {
-            return bits;
-        }
-        power = power / 2;
-        bits -= 1;
+    match cols {
+        2 => 1,
+        4 => 2,
+        8 => 3,
+        16 => 4,
+        32 => 5,
+        64 => 6,
+        128 => 7,
+        256 => 8,
+        512 => 9,
+        1024 => 10,
+        2048 => 11,
+        4096 => 12,
+        8192 => 13,
+        16384 => 14,
+        32768 => 15,
+        65536 => 16,
+        _ => 0,
     }
-    0
 }
 
 fn grid_fits(rows: usize, cols: usize) -> bool

@@ -27,6 +27,7 @@ fn merge_cells(
     ensures { λ r. ⌜ passOf (now (grid .exit)) r ≡ eachOf (mergePiece t c n (now (other .entry))) (depthOf t) 0 count (now (grid .entry)) state ⌝ }
 {
     let depth = cell::layout::depth(t);
+    let slot = cell::layout::slot(t, n);
     let mut after = state;
     let mut draws: u64 = 0;
     let mut start: usize = 0;
@@ -40,6 +41,7 @@ fn merge_cells(
             t,
             c,
             n,
+            slot,
             after,
         );
         after = drawn.state;

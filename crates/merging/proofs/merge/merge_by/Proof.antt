@@ -1,5 +1,6 @@
--- `merge_by`: both zooms are at most the target, so two shutters are below two units and carry at most once. Assumes nothing.
-use Rattle.cell.proofs.MergeLaws.{target-high, target-high', target-low, target-fits, target-positive, carry-le}
+-- `merge_by`: both zooms are at most the target, to which the pixels, the carry and the rest are taken. Assumes nothing.
+use Rattle.cell.proofs.MergeLaws.{target-high, target-high', target-low}
+use Rattle.cell.proofs.InsertionCases.{slot-read}
 use Rattle.merging.proofs.MergeCases.{merged-is}
 use borrow.Author.Needs.{needs}
 use Rattle.merging.proofs.merge.merge_by.Statement.{statement}
@@ -8,20 +9,11 @@ use Rattle.merging.proofs.merge.merge_by.Tie as tie
 larger-zoom-requires : tie.Need-larger-zoom-requires
 larger-zoom-requires c κs = search needs
 
-unit-requires : tie.Need-unit-requires
-unit-requires c κs = (search needs, search needs, search (target-fits, needs))
-
-both-shutters-requires : tie.Need-both-shutters-requires
-both-shutters-requires c κs = search needs
-
-div-sum-up : tie.Need-div-sum-up
-div-sum-up c = search (target-positive, needs)
+carry-of-requires : tie.Need-carry-of-requires
+carry-of-requires c κs = search needs
 
 sum-up-requires : tie.Need-sum-up-requires
-sum-up-requires c κs = ((search needs, search needs, search needs), (search (target-high, needs), search (target-high', needs), search (target-low, needs), search (carry-le, needs)))
-
-rest-requires : tie.Need-rest-requires
-rest-requires c κs = (search needs, search needs, search (target-low, needs))
+sum-up-requires c κs = ((search needs, search needs, search needs), (search (target-high, needs), search (target-high', needs), search (target-low, needs), search (slot-read, needs), search needs))
 
 store-requires : tie.Need-store-requires
 store-requires c κs = (search needs, search needs, search needs, search needs)
@@ -33,18 +25,20 @@ same-length-2 : tie.Need-same-length-2
 same-length-2 c = search needs
 
 returns : tie.Need-returns
-returns c = search (merged-is, needs)
+returns c =
+    let summed = c .before .before .before .before .before .before .before in
+    let carried = summed .before .before .before in
+    let target = carried .before .before in
+    let start = target .before .before .before .before .before in
+    merged-is _ _ _ _ _ (target .larger-zoom .ensures) _ (carried .carry-of .ensures) _ _ (start .pre .0 .1) _ _ _ _ (summed .sum-up .ensures .0) (c .before .before .store .ensures)
 
 pub merge-by-spec : {M : Type 1} → statement M
 merge-by-spec =
     tie.close
     (tie.spec
     larger-zoom-requires
-    unit-requires
-    both-shutters-requires
-    div-sum-up
+    carry-of-requires
     sum-up-requires
-    rest-requires
     store-requires
     same-length
     same-length-2

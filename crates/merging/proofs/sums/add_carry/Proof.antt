@@ -10,9 +10,6 @@ mul-sums c = search needs
 slice-read-sums : tie.Need-slice-read-sums
 slice-read-sums c = search needs
 
-cast-sums : tie.Need-cast-sums
-cast-sums c = search needs
-
 add-sums : tie.Need-add-sums
 add-sums c = record { fits = search (carry-fits, needs) }
 
@@ -34,7 +31,6 @@ add-carry-spec =
     (tie.spec
     mul-sums
     slice-read-sums
-    cast-sums
     add-sums
     mul-sums-2
     slice-write-sums

@@ -1,6 +1,6 @@
 -- `add_pixels`: the fronts of both cells are their pixels, and each lacks the levels up to the target. Assumes nothing.
 use Rattle.cell.proofs.LayoutLaws.{front-count}
-use Rattle.merging.proofs.MergeCases.{added-is}
+use Rattle.merging.proofs.MergeCases.{added-flat, added-is}
 use lib.ListN.{length-take}
 use native.Mathlib.Omega.{arith}
 use borrow.Author.Needs.{needs}
@@ -22,6 +22,21 @@ sub-other c = search needs
 pixels-requires : tie.Need-pixels-requires
 pixels-requires c κs = search needs
 
+slice-aggregate-add-flat : tie.Need-slice-aggregate-add-flat
+slice-aggregate-add-flat c = search (front-count, needs)
+
+slice-aggregate-add-flat-2 : tie.Need-slice-aggregate-add-flat-2
+slice-aggregate-add-flat-2 c = search (front-count, needs)
+
+add-flat-requires : tie.Need-add-flat-requires
+add-flat-requires c κs = simp length-take (omega arith)
+
+same-length : tie.Need-same-length
+same-length c = search needs
+
+returns : tie.Need-returns
+returns c = (search (added-flat, needs), search needs)
+
 slice-aggregate-add-each : tie.Need-slice-aggregate-add-each
 slice-aggregate-add-each c = search (front-count, needs)
 
@@ -31,11 +46,11 @@ slice-aggregate-add-each-2 c = search (front-count, needs)
 add-each-requires : tie.Need-add-each-requires
 add-each-requires c κs = simp length-take (omega arith)
 
-same-length : tie.Need-same-length
-same-length c = search needs
+same-length-2 : tie.Need-same-length-2
+same-length-2 c = search needs
 
-returns : tie.Need-returns
-returns c = (search (added-is, needs), search needs)
+returns-2 : tie.Need-returns-2
+returns-2 c = (search (added-is, needs), search needs)
 
 pub add-pixels-spec : {M : Type 1} → statement M
 add-pixels-spec =
@@ -46,8 +61,13 @@ add-pixels-spec =
     zoom-requires-2
     sub-other
     pixels-requires
+    slice-aggregate-add-flat
+    slice-aggregate-add-flat-2
+    add-flat-requires
+    same-length
+    returns
     slice-aggregate-add-each
     slice-aggregate-add-each-2
     add-each-requires
-    same-length
-    returns)
+    same-length-2
+    returns-2)

@@ -1,5 +1,5 @@
 -- `sum_up`: the pixels' sums, the carry and the raises are the stages of `sumsOf`. Assumes nothing.
-use Rattle.merging.proofs.MergeCases.{carry-in, sums-are}
+use Rattle.merging.proofs.MergeCases.{sums-are}
 use borrow.Author.Needs.{needs}
 use Rattle.merging.proofs.sums.sum_up.Statement.{statement}
 use Rattle.merging.proofs.sums.sum_up.Tie as tie
@@ -7,17 +7,14 @@ use Rattle.merging.proofs.sums.sum_up.Tie as tie
 add-pixels-requires : tie.Need-add-pixels-requires
 add-pixels-requires c κs = search needs
 
-slot-requires : tie.Need-slot-requires
-slot-requires c κs = search needs
-
 add-carry-requires : tie.Need-add-carry-requires
-add-carry-requires c κs = (search (carry-in, needs), search needs, search needs)
+add-carry-requires c κs = search needs
 
 settle-requires : tie.Need-settle-requires
 settle-requires c κs = search needs
 
-add-t20 : tie.Need-add-t20
-add-t20 c = search needs
+add-t19 : tie.Need-add-t19
+add-t19 c = search needs
 
 same-length : tie.Need-same-length
 same-length c = search needs
@@ -28,11 +25,4 @@ returns c = (search (sums-are, needs), search needs)
 pub sum-up-spec : {M : Type 1} → statement M
 sum-up-spec =
     tie.close
-    (tie.spec
-    add-pixels-requires
-    slot-requires
-    add-carry-requires
-    settle-requires
-    add-t20
-    same-length
-    returns)
+    (tie.spec add-pixels-requires add-carry-requires settle-requires add-t19 same-length returns)

@@ -11,13 +11,16 @@ use Rattle.sketch_merging.proofs.pass.merge_cells.Statement.{statement}
 use Rattle.sketch_merging.proofs.pass.merge_cells.Tie as tie
 
 abbrev Inv-loop : tie.InvT-loop
-Inv-loop grid₀ other work₀ t c count n state depth after₀ draws₀ start₀ index₀ grid work after draws start index = Going (mergePiece t c n other) (depthOf t) 127038 count grid₀ state grid after draws start index × (length work ≡ 4098)
+Inv-loop grid₀ other work₀ t c count n state depth slot after₀ draws₀ start₀ index₀ grid work after draws start index = Going (mergePiece t c n other) (depthOf t) 127038 count grid₀ state grid after draws start index × (length work ≡ 4098)
 
 abbrev μ-loop : tie.MeasureT-loop
-μ-loop grid₀ other work₀ t c count n state depth after₀ draws₀ start₀ index₀ grid work after draws start index = count - index
+μ-loop grid₀ other work₀ t c count n state depth slot after₀ draws₀ start₀ index₀ grid work after draws start index = count - index
 
 depth-requires : tie.Need-depth-requires Inv-loop μ-loop
 depth-requires c κs = search needs
+
+slot-requires : tie.Need-slot-requires Inv-loop μ-loop
+slot-requires c κs = search needs
 
 loop-holds : tie.Need-loop-holds Inv-loop μ-loop
 loop-holds c = (search (going-begin, needs), search needs)
@@ -44,7 +47,7 @@ part-merge-within-end-2 : tie.Need-part-merge-within-end-2 Inv-loop μ-loop
 part-merge-within-end-2 c = search (other-room, needs)
 
 merge-within-requires : tie.Need-merge-within-requires Inv-loop μ-loop
-merge-within-requires c κs = (search (pair-is, needs), search needs)
+merge-within-requires c κs = ((search (pair-is, needs), search needs), search needs)
 
 cast-draws : tie.Need-cast-draws Inv-loop μ-loop
 cast-draws c = search needs
@@ -77,6 +80,7 @@ merge-cells-spec =
     Inv-loop
     μ-loop
     depth-requires
+    slot-requires
     loop-holds
     add-end
     sub-merge-within
