@@ -50,38 +50,38 @@ module _ (k : MicroCm) (key g l : List ℕ) (old new n : ℕ) (r : Counted) (ec 
 
 module _ (k : MicroCm) (g : List ℕ) (clock : SubWindowClock) (counts : Bool) (ek : counts ≡ isCount (k .clock)) where
   -- `update`
-  module _ (key l : List ℕ) (old new : ℕ) (r : Counted) (on : Onward (k .clock) (tickOf (k .clock)) clock) (ev : r .verdict ≡ itemVerdict k key g clock (not counts))
-      (ec : countedOf l r ≡ itemCounted (r .verdict) k key old new old g) (ok : Bool) (asked : ok ≡ isAccepted (r .verdict)) where
+  module _ (key l : List ℕ) (old new n : ℕ) (r : Counted) (on : Onward (k .clock) (tickOf (k .clock)) clock) (ev : r .verdict ≡ itemVerdict k key g clock (not counts))
+      (ec : countedOf l r ≡ itemCounted (r .verdict) k key old new n g) (ok : Bool) (asked : ok ≡ isAccepted (r .verdict)) where
     update-told : r .verdict ≡ updateVerdict k key g
     update-told = ev ∙ rw (on .is, ek) refl
 
     pub update-refused : not ok ≡ true → sketchOutcome (record { verdict = r .verdict; sketch = k; draws = 0 }) l ≡ updateCall k key g
     unfolding updateCall
-    update-refused h = as-found (r .verdict) (updateVerdict k key g) update-told ok asked (updated key (world k g)) (world k g) h l (untouched k key g l old new old r ec ok asked h)
+    update-refused h = as-found (r .verdict) (updateVerdict k key g) update-told ok asked (updated key (world k g)) (world k g) h l (untouched k key g l old new n r ec ok asked h)
 
-    pub update-done : not ok ≡ false → SubWindows k clock old new old → (y : MicroCm) → y ≡ taking k clock (r .state) → sketchOutcome (record { verdict = r .verdict; sketch = y; draws = r .draws }) l ≡ updateCall k key g
+    pub update-done : not ok ≡ false → SubWindows k clock old new n → n ≡ old → (y : MicroCm) → y ≡ taking k clock (r .state) → sketchOutcome (record { verdict = r .verdict; sketch = y; draws = r .draws }) l ≡ updateCall k key g
     unfolding updateCall
-    update-done a at y ey =
+    update-done a at own y ey =
         let w : World = record { sketch = taking k clock (r .state); grid = l; draws = r .draws } in
         rw ey (as-done (r .verdict) (updateVerdict k key g) update-told ok asked (updated key (world k g)) (world k g) a w
-        (ap (left k clock) (counted k key g l old new old r ec ok asked a) ∙ item-first k key g clock old new (at .before-is) (at .after-is) ∙ rw (on .is) refl))
+        (ap (left k clock) (counted k key g l old new n r ec ok asked a ∙ rw own refl) ∙ item-first k key g clock old new (at .before-is) (at .after-is) ∙ rw (on .is) refl))
 
   module _ (timestamp : ℕ) (on : Onward (k .clock) (advanceOf (k .clock) timestamp) clock) where
     -- `update_at`
-    module _ (key l : List ℕ) (old new : ℕ) (r : Counted) (ev : r .verdict ≡ itemVerdict k key g clock counts) (ec : countedOf l r ≡ itemCounted (r .verdict) k key old new new g) (ok : Bool) (asked : ok ≡ isAccepted (r .verdict)) where
+    module _ (key l : List ℕ) (old new n : ℕ) (r : Counted) (ev : r .verdict ≡ itemVerdict k key g clock counts) (ec : countedOf l r ≡ itemCounted (r .verdict) k key old new n g) (ok : Bool) (asked : ok ≡ isAccepted (r .verdict)) where
       update-at-told : r .verdict ≡ updateAtVerdict k key timestamp g
       update-at-told = ev ∙ rw (on .is, ek) refl
 
       pub update-at-refused : not ok ≡ true → sketchOutcome (record { verdict = r .verdict; sketch = k; draws = 0 }) l ≡ updateAtCall k key timestamp g
       unfolding updateAtCall
-      update-at-refused h = as-found (r .verdict) (updateAtVerdict k key timestamp g) update-at-told ok asked (updatedAt key timestamp (world k g)) (world k g) h l (untouched k key g l old new new r ec ok asked h)
+      update-at-refused h = as-found (r .verdict) (updateAtVerdict k key timestamp g) update-at-told ok asked (updatedAt key timestamp (world k g)) (world k g) h l (untouched k key g l old new n r ec ok asked h)
 
-      pub update-at-done : not ok ≡ false → SubWindows k clock old new new → (y : MicroCm) → y ≡ taking k clock (r .state) → sketchOutcome (record { verdict = r .verdict; sketch = y; draws = r .draws }) l ≡ updateAtCall k key timestamp g
+      pub update-at-done : not ok ≡ false → SubWindows k clock old new n → n ≡ new → (y : MicroCm) → y ≡ taking k clock (r .state) → sketchOutcome (record { verdict = r .verdict; sketch = y; draws = r .draws }) l ≡ updateAtCall k key timestamp g
       unfolding updateAtCall
-      update-at-done a at y ey =
+      update-at-done a at own y ey =
           let w : World = record { sketch = taking k clock (r .state); grid = l; draws = r .draws } in
           rw ey (as-done (r .verdict) (updateAtVerdict k key timestamp g) update-at-told ok asked (updatedAt key timestamp (world k g)) (world k g) a w
-          (ap (left k clock) (counted k key g l old new new r ec ok asked a) ∙ item-last k key g clock old new (at .before-is) (at .after-is) ∙ rw (on .is) refl))
+          (ap (left k clock) (counted k key g l old new n r ec ok asked a ∙ rw own refl) ∙ item-last k key g clock old new (at .before-is) (at .after-is) ∙ rw (on .is) refl))
 
     -- `advance_to`
     module _ (v : Verdict) (ev : v ≡ moveVerdict k g clock counts) (ok : Bool) (asked : ok ≡ isAccepted v) where

@@ -15,7 +15,8 @@ use Rattle.microscope.specs.declared.MicroCm.{MicroCm}
 use Rattle.microscope.specs.declared.Passed.{Passed}
 use Rattle.microscope.specs.Sketch.{cellsOf, crossEach}
 use Rattle.microscope.specs.Workers.{SoundCells, passOf}
-use Rattle.counting.specs.Workers.{SoundIf, crossPiece, crossIf, cross}
+use Rattle.recording.specs.Workers.{crossPiece}
+use Rattle.counting.specs.Workers.{SoundIf, crossIf, cross}
 
 each-none : (t c n size count j : ℕ) (g : List ℕ) (σ : ℕ) → eachOf (λ i b τ. crossOf t c n 0 b τ) size j count g σ ≡ still g σ
 unfolding eachOf crossOf

@@ -10,18 +10,14 @@ use Rattle.refusal.specs.declared.Verdict.{Verdict}
 use Rattle.refusal.specs.declared.Verdict.the-variants.{Accepted}
 use Rattle.refusal.specs.Refusals.{refuse, whenAccepted}
 use Rattle.cell.specs.Cell.{depthOf}
-use Rattle.cell.specs.Crossing.{crossOf}
 use Rattle.clock.specs.declared.SubWindowClock.{SubWindowClock}
 use Rattle.clock.specs.Clock.{nOf}
 use Rattle.microscope.specs.declared.MicroCm.{MicroCm}
 use Rattle.microscope.specs.Sketch.{cellsOf, keyCells, insertEach}
 use Rattle.microscope.specs.Refusals.{refuseSketch, refuseKey, refuseUnsound, judgedCells}
 use Rattle.microscope.specs.Workers.{SoundCells}
+use Rattle.recording.specs.Workers.{crossPiece}
 use Rattle.counting.specs.declared.worker.Counted.{Counted}
-
--- a cell crosses, whatever its index
-abbrev pub crossPiece : ℕ → ℕ → ℕ → ℕ → ℕ → List ℕ → ℕ → Step
-crossPiece t c n crossed j b σ = crossOf t c n crossed b σ
 
 -- so many cells cross from one sub-window to another, or stay as they are
 abbrev pub crossIf : Bool → ℕ → ℕ → ℕ → ℕ → ℕ → List ℕ → ℕ → Step
@@ -46,10 +42,11 @@ itemVerdict k key g clock wrong =
 abbrev pub moveVerdict : MicroCm → List ℕ → SubWindowClock → Bool → Verdict
 moveVerdict k g clock wrong = refuseSketch k g (refuse 8 wrong (refuseUnsound k g (judgedCells k clock []) Accepted))
 
--- an item of sub-window n, with the crossing before or after it
+-- every cell of a sketch crosses, or stays as it is
 abbrev pub cross : MicroCm → Bool → ℕ → ℕ → List ℕ → ℕ → Step
 cross k moves old new g σ = crossIf moves (k .params .t) (k .params .c) (cellsOf k) old new g σ
 
+-- an item of sub-window n: the cells cross before it where it is not of the old one, and after it where it is not of the new
 unfoldable pub itemOf : MicroCm → List ℕ → ℕ → ℕ → ℕ → List ℕ → Step
 itemOf k key old new n g =
     let before = cross k (not (eqb n old)) old new g (k .rounding .state) in
@@ -57,7 +54,7 @@ itemOf k key old new n g =
     let last = cross k (not (eqb new n)) old new (recorded .bytes) (recorded .state) in
     record { bytes = last .bytes; state = last .state; draws = before .draws + recorded .draws + last .draws }
 
--- and nothing where it is refused
+-- and nothing is done where it is refused
 abbrev pub itemCounted : Verdict → MicroCm → List ℕ → ℕ → ℕ → ℕ → List ℕ → Step
 itemCounted v k key old new n g = whenAccepted v (itemOf k key old new n g) (still g (k .rounding .state))
 

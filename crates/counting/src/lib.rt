@@ -3,7 +3,6 @@
 // A call judges first and writes after: a refused one leaves the sketch and every byte of the grid as they came. A slice is
 // handed on as a part, `&key[..]`: whole, it would be copied through memory at each call.
 mod judge;
-mod recording;
 mod worker;
 
 use microscope::MicroCm;

@@ -1,7 +1,6 @@
 // Document 01, "Sketch and grid": an item and a move of the clock, judged together and then done in the order that the
 // item's own sub-window gives.
 use crate::judge;
-use crate::recording;
 use clock::SubWindowClock;
 use microscope::MicroCm;
 use microscope::Passed;

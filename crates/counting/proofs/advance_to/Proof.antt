@@ -19,7 +19,7 @@ is-count-requires : tie.Need-is-count-requires
 is-count-requires c κs = search needs
 
 movement-requires : tie.Need-movement-requires
-movement-requires c κs = search (crosses-told, needs)
+movement-requires c κs = crosses-told (c .before .before .before .before .before .before .before .before .args .sketch) _ _ _ (c .before .before .before .sub-window .ensures) (c .before .before .sub-window2 .ensures)
 
 accepted-requires : tie.Need-accepted-requires
 accepted-requires c κs = search needs
@@ -28,13 +28,22 @@ same-length : tie.Need-same-length
 same-length c = search needs
 
 returns : tie.Need-returns
-returns c = search (advance-refused, needs)
+returns c =
+    let b = c .before .before in
+    let a = b .before .before .before .before .before .before .before .before .before .args in
+    advance-refused (a .sketch) (a .grid .now) (b .before .before .before .before .before .advanced .result) (b .before .before .is-count .result) (b .before .before .is-count .ensures) _ (b .before .before .before .before .before .advanced .ensures) _ (b .movement .ensures) _ (c .before .accepted .ensures) (c .if1 .taken)
 
 mul-moved : tie.Need-mul-moved
-mul-moved c = record { fits = search (move-cells-fit, needs) }
+mul-moved c =
+    let b = c .before .before .before in
+    let a = b .before .before .before .before .before .before .before .before .before .args in
+    record { fits = move-cells-fit (a .sketch) (a .grid .now) (b .before .before .before .before .before .advanced .result) (b .before .before .is-count .result) _ (b .movement .ensures) _ (c .before .before .accepted .ensures) (c .before .if1 .left) }
 
 moved-requires : tie.Need-moved-requires
-moved-requires c κs = (search (move-sound, needs), search needs)
+moved-requires c κs =
+    let b = c .before .before .before .before in
+    let a = b .before .before .before .before .before .before .before .before .before .args in
+    (move-sound (a .sketch) (a .grid .now) (b .before .before .before .before .before .advanced .result) (b .before .before .is-count .result) _ (b .movement .ensures) _ (c .before .before .before .accepted .ensures) (c .before .before .if1 .left) _ _ (b .before .before .before .before .sub-window .ensures) (b .before .before .before .sub-window2 .ensures), search needs)
 
 went-on-requires : tie.Need-went-on-requires
 went-on-requires c κs = search needs
@@ -43,7 +52,10 @@ same-length-2 : tie.Need-same-length-2
 same-length-2 c = search needs
 
 returns-2 : tie.Need-returns-2
-returns-2 c = search (advance-done, needs)
+returns-2 c =
+    let b = c .before .before .before .before .before .before .before .before in
+    let a = b .before .before .before .before .before .before .before .before .before .args in
+    advance-done (a .sketch) (a .grid .now) (b .before .before .before .before .before .advanced .result) (b .before .before .is-count .result) (b .before .before .is-count .ensures) _ (b .before .before .before .before .before .advanced .ensures) _ (b .movement .ensures) _ (c .before .before .before .before .before .before .before .accepted .ensures) _ _ (b .before .before .before .before .sub-window .ensures) (b .before .before .before .sub-window2 .ensures) _ _ (c .before .before .before .moved .ensures .0) (c .before .before .before .before .before .before .if1 .left) _ (c .went-on .ensures)
 
 pub advance-to-spec : {M : Type 1} → statement M
 advance-to-spec =

@@ -7,7 +7,9 @@ use Rattle.counting.proofs.worker.count.Statement.{statement}
 use Rattle.counting.proofs.worker.count.Tie as tie
 
 item-requires : tie.Need-item-requires
-item-requires c κs = search (crosses-told, needs)
+item-requires c κs =
+    let s = c .before .before .before .before in
+    crosses-told (s .args .sketch) _ _ _ (s .pre .before-is) (s .pre .after-is)
 
 accepted-requires : tie.Need-accepted-requires
 accepted-requires c κs = search needs
@@ -16,37 +18,54 @@ same-length : tie.Need-same-length
 same-length c = search needs
 
 returns : tie.Need-returns
-returns c = (search needs, search (count-refused, needs))
+returns c =
+    let a = c .before .before .before .before .before .before .before .args in
+    (c .before .before .item .ensures, count-refused (a .sketch) (a .key .now) (a .grid .now) (a .old) (a .new) (a .n) (c .before .before .item .result) _ (c .before .accepted .ensures) (c .if1 .taken))
 
 mul-cells : tie.Need-mul-cells
-mul-cells c = record { fits = search (item-cells-fit, needs) }
+mul-cells c =
+    let e = c .before .before in
+    let a = e .before .before .before .before .before .before .before .args in
+    record { fits = item-cells-fit (a .sketch) (a .key .now) (a .grid .now) (a .after) (a .wrong) _ (e .before .before .item .ensures) _ (e .before .accepted .ensures) (e .if1 .left) }
 
 moved-requires : tie.Need-moved-requires
-moved-requires c κs = (search (before-sound, needs), search needs)
+moved-requires c κs =
+    let e = c .before .before .before in
+    let a = e .before .before .before .before .before .before .before .args in
+    (before-sound (a .sketch) (a .key .now) (a .grid .now) (a .after) (a .wrong) _ (e .before .before .item .ensures) _ (e .before .accepted .ensures) (e .if1 .left) _ _ _ (e .before .before .before .before .before .before .before .pre), e .before .before .before .before .before .before .before .pre .grows)
 
 insert-each-requires : tie.Need-insert-each-requires
 insert-each-requires c κs =
     let e = c .before .before .before .before .before .before .before in
     let a = e .before .before .before .before .before .before .before .args in
-    between-readable (a .sketch) _ _ (a .after) (a .wrong) _ (e .before .before .item .ensures) _ (e .before .accepted .ensures) (e .if1 .left) _ _ _ (e .before .before .before .before .before .before .before .pre) _ _ (c .before .before .before .moved .ensures .0)
+    between-readable (a .sketch) (a .key .now) (a .grid .now) (a .after) (a .wrong) _ (e .before .before .item .ensures) _ (e .before .accepted .ensures) (e .if1 .left) _ _ _ (e .before .before .before .before .before .before .before .pre) _ _ (c .before .before .before .moved .ensures .0)
 
 moved-requires-2 : tie.Need-moved-requires-2
 moved-requires-2 c κs =
     let e = c .before .before .before .before .before .before .before .before .before .before .before in
     let a = e .before .before .before .before .before .before .before .args in
-    (last-sound (a .sketch) _ _ (a .after) (a .wrong) _ (e .before .before .item .ensures) _ (e .before .accepted .ensures) (e .if1 .left) _ _ _ (e .before .before .before .before .before .before .before .pre) _ _ (c .before .before .before .before .before .before .before .moved .ensures .0) _ _ (c .before .before .before .insert-each .ensures .0), search needs)
+    (last-sound (a .sketch) (a .key .now) (a .grid .now) (a .after) (a .wrong) _ (e .before .before .item .ensures) _ (e .before .accepted .ensures) (e .if1 .left) _ _ _ (e .before .before .before .before .before .before .before .pre) _ _ (c .before .before .before .before .before .before .before .moved .ensures .0) _ _ (c .before .before .before .insert-each .ensures .0), e .before .before .before .before .before .before .before .pre .grows)
 
 add-t32 : tie.Need-add-t32
-add-t32 c = record { fits = search (few-draws, needs) }
+add-t32 c =
+    let e = c .before .before .before .before .before .before .before .before .before .before .before .before .before .before .before .before in
+    let a = e .before .before .before .before .before .before .before .args in
+    record { fits = few-draws (a .sketch) (a .key .now) (a .grid .now) (a .after) (a .wrong) _ (e .before .before .item .ensures) _ (e .before .accepted .ensures) (e .if1 .left) _ _ (c .before .before .before .before .before .before .before .before .before .before .before .before .moved .ensures .1) (c .before .before .before .before .before .before .before .before .insert-each .ensures .1) }
 
 add-t33 : tie.Need-add-t33
-add-t33 c = record { fits = search (few-draws-more, needs) }
+add-t33 c =
+    let e = c .before .before .before .before .before .before .before .before .before .before .before .before .before .before .before .before .before in
+    let a = e .before .before .before .before .before .before .before .args in
+    record { fits = few-draws-more (a .sketch) (a .key .now) (a .grid .now) (a .after) (a .wrong) _ (e .before .before .item .ensures) _ (e .before .accepted .ensures) (e .if1 .left) _ _ _ (c .before .before .before .before .before .before .before .before .before .before .before .before .before .moved .ensures .1) (c .before .before .before .before .before .before .before .before .before .insert-each .ensures .1) (c .before .before .before .before .before .moved2 .ensures .1) }
 
 same-length-2 : tie.Need-same-length-2
 same-length-2 c = search needs
 
 returns-2 : tie.Need-returns-2
-returns-2 c = (search needs, search (count-done, needs))
+returns-2 c =
+    let e = c .before .before .before .before .before .before .before .before .before .before .before .before .before .before .before .before .before in
+    let a = e .before .before .before .before .before .before .before .args in
+    (e .before .before .item .ensures, count-done (a .sketch) (a .key .now) (a .grid .now) (a .old) (a .new) (a .n) (e .before .before .item .result) _ (e .before .accepted .ensures) (e .if1 .left) _ _ _ _ _ _ (c .before .before .before .before .before .before .before .before .before .before .before .before .before .moved .ensures .0) (c .before .before .before .before .before .before .before .before .before .insert-each .ensures .0) (c .before .before .before .before .before .moved2 .ensures .0))
 
 pub count-spec : {M : Type 1} → statement M
 count-spec =

@@ -9,7 +9,7 @@ use Rattle.laws.proofs.PassLaws.{Going, going-piece, going-length}
 use Rattle.cell.specs.Cell.{depthOf, soundOf}
 use Rattle.cell.specs.Workers.{Fit}
 use Rattle.microscope.specs.Workers.{SoundCells}
-use Rattle.counting.specs.Workers.{crossPiece}
+use Rattle.recording.specs.Workers.{crossPiece}
 
 module _ (t c n crossed count : ℕ) (g₀ : List ℕ) (σ₀ : ℕ) (ok : SoundCells t c count g₀) (g : List ℕ) (σ drawn a i : ℕ)
     (w : Going (crossPiece t c n crossed) (depthOf t) 4099 count g₀ σ₀ g σ drawn a i) (more : i < count) where

@@ -1,11 +1,11 @@
 -- `insert_each`: the rows before this one are done, and the cells of those to come are as they were. Assumes nothing.
-use Rattle.counting.proofs.RecordingLoop.{Recording, recording-begin, row-sound, recording-on, recording-end, recording-few, recording-room}
+use Rattle.recording.proofs.RecordingLoop.{Recording, recording-begin, row-sound, recording-on, recording-end, recording-few, recording-room}
 use Rattle.microscope.proofs.AddressLaws.{key-row}
 use Prim.Native.Nat.{_-_}
 use lib.ListN.{length}
 use borrow.Author.Needs.{needs}
-use Rattle.counting.proofs.recording.insert_each.Statement.{statement}
-use Rattle.counting.proofs.recording.insert_each.Tie as tie
+use Rattle.recording.proofs.insert_each.Statement.{statement}
+use Rattle.recording.proofs.insert_each.Tie as tie
 
 abbrev Inv-loop : tie.InvT-loop
 Inv-loop sketch key grid₀ n state slot after₀ draws₀ row₀ grid after draws row = Recording sketch n key grid₀ state grid after draws row

@@ -1,8 +1,8 @@
 -- `insert_at`: the part that is lent is the cell, and the grid comes back with it replaced. Assumes nothing.
-use Rattle.counting.proofs.RecordingCases.{lent-fit, lent-sound, insert-left}
+use Rattle.recording.proofs.RecordingCases.{lent-fit, lent-sound, insert-left}
 use borrow.Author.Needs.{needs}
-use Rattle.counting.proofs.recording.insert_at.Statement.{statement}
-use Rattle.counting.proofs.recording.insert_at.Tie as tie
+use Rattle.recording.proofs.insert_at.Statement.{statement}
+use Rattle.recording.proofs.insert_at.Tie as tie
 
 start-of-requires : tie.Need-start-of-requires
 start-of-requires c κs = search needs

@@ -13,7 +13,7 @@ ghost use Rattle.cell.specs.Cell.{depthOf, slotOf, soundOf};
 ghost use Rattle.cell.specs.Workers.{stepOf};
 ghost use Rattle.microscope.specs.Sketch.{cellsOf, cellOf, keyCells, insertAt, insertEach};
 ghost use Rattle.microscope.specs.Workers.{Ready, Readable, SoundCells, passOf};
-ghost use Rattle.counting.specs.Workers.{crossPiece};
+ghost use Rattle.recording.specs.Workers.{crossPiece};
 
 fn insert_at(
     sketch: MicroCm,

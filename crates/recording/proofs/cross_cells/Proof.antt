@@ -1,12 +1,12 @@
 -- `cross_cells`: a pass over equal pieces in place, from the front. Assumes nothing.
 use Rattle.laws.proofs.PassLaws.{Going, going-begin, going-room, going-fits, going-on, going-end}
-use Rattle.counting.proofs.CrossingPass.{piece-sound, piece-fit, pass-room, index-on, few-each}
+use Rattle.recording.proofs.CrossingPass.{piece-sound, piece-fit, pass-room, index-on, few-each}
 use Rattle.cell.specs.Cell.{depthOf}
-use Rattle.counting.specs.Workers.{crossPiece}
+use Rattle.recording.specs.Workers.{crossPiece}
 use Prim.Native.Nat.{_-_}
 use borrow.Author.Needs.{needs}
-use Rattle.counting.proofs.recording.cross_cells.Statement.{statement}
-use Rattle.counting.proofs.recording.cross_cells.Tie as tie
+use Rattle.recording.proofs.cross_cells.Statement.{statement}
+use Rattle.recording.proofs.cross_cells.Tie as tie
 
 abbrev Inv-loop : tie.InvT-loop
 Inv-loop grid₀ t c count n crossed state depth slot after₀ draws₀ start₀ index₀ grid after draws start index = Going (crossPiece t c n crossed) (depthOf t) 4099 count grid₀ state grid after draws start index

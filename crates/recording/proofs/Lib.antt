@@ -1,0 +1,3 @@
+pub mod RecordingCases
+pub mod RecordingLoop
+pub mod CrossingPass
