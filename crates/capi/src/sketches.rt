@@ -197,7 +197,7 @@ pub extern "C" fn microscope_bucket_check(
     ensures { λ r. ⌜ r ≡ verdictOf (bucketVerdict (sketchOf sketch) row col (now (grid .entry))) ⌝ }
 {
     let core = plain::core(sketch);
-    let verdict = microscope::bucket_check(core, row, col, grid);
+    let verdict = auditing::bucket_check(core, row, col, grid);
     plain::told(verdict)
 }
 
@@ -207,7 +207,7 @@ pub extern "C" fn microscope_max_zoom(sketch: PlainSketch, grid: &[u8]) -> Plain
     ensures { λ r. ⌜ r ≡ highestOf (highestCall (sketchOf sketch) (now (grid .entry))) ⌝ }
 {
     let core = plain::core(sketch);
-    let answer = microscope::max_zoom(core, grid);
+    let answer = auditing::max_zoom(core, grid);
     let verdict = answer.verdict;
     plain::value(verdict, answer.zoom as u64)
 }
@@ -218,7 +218,7 @@ pub extern "C" fn microscope_audit(sketch: PlainSketch, grid: &[u8]) -> PlainAud
     ensures { λ r. ⌜ r ≡ auditOf (auditCall (sketchOf sketch) (now (grid .entry))) ⌝ }
 {
     let core = plain::core(sketch);
-    let answer = microscope::audit(core, grid);
+    let answer = auditing::audit(core, grid);
     plain::found(answer)
 }
 

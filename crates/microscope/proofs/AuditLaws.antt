@@ -1,7 +1,7 @@
 -- The first unsound cell is unsound, and no cell before it is; an audit names it, and so does a verdict of 14. Assumes nothing.
 use Prim.Native.Nat.{ℕ, zero, suc, _+_, _≤_, _<_}
 use mathlib.Core.Path.{_≡_, refl, sym, ap, _∙_}
-use mathlib.Core.Bool.{Bool, true, false, not, cond}
+use mathlib.Core.Bool.{Bool, true, false, cond}
 use mathlib.Core.List.{List, [], _∷_}
 use native.Mathlib.Nat.{zero-add}
 use native.Mathlib.Omega.{arith}
@@ -10,14 +10,13 @@ use borrow.Author.Tests.{ltb-true, ltb-false}
 use Rattle.refusal.specs.declared.Verdict.{Verdict}
 use Rattle.refusal.specs.declared.Verdict.the-variants.{Accepted, Refused, Unsound}
 use Rattle.refusal.specs.Refusals.{isAccepted, indexOf}
-use Rattle.refusal.proofs.VerdictLaws.{refused-leaves, turned-back, let-pass}
 use Rattle.cell.specs.Cell.{soundOf}
 use Rattle.microscope.specs.declared.MicroCm.{MicroCm}
 use Rattle.microscope.specs.declared.Finding.{Finding}
 use Rattle.microscope.specs.declared.Finding.the-variants as finding
 use Rattle.microscope.specs.Sketch.{cellsOf, cellOf, countFrom, allCells}
 use Rattle.microscope.specs.Audit.{firstUnsound, auditOf}
-use Rattle.microscope.specs.Refusals.{refuseUnsound, sketchVerdict, auditCall}
+use Rattle.microscope.specs.Refusals.{refuseUnsound}
 use Rattle.microscope.proofs.JudgedLaws.{judged-all}
 
 module _ (k : MicroCm) (g : List ℕ) where
@@ -99,6 +98,9 @@ module _ (k : MicroCm) (g : List ℕ) where
       by true e = e
       by false e = refl
 
+  pub audit-told : (v : Verdict) → v ≡ refuseUnsound k g (allCells k) Accepted → auditOf k g ≡ cond (isAccepted v) finding.Sound (finding.Unsound (indexOf v))
+  audit-told v ev = told-cells (allCells k) ∙ ap told (sym ev)
+
   pub refusal-names : (j : ℕ) → refuseUnsound k g (allCells k) Accepted ≡ Unsound j → FirstBad 0 (cellsOf k) j
   refusal-names j e = audit-names j (told-cells (allCells k) ∙ ap told e)
 
@@ -110,24 +112,3 @@ module _ (k : MicroCm) (g : List ℕ) where
       clear Accepted e = refl
       clear (Refused n) e = absurd (never 0 (sym e))
       clear (Unsound i) e = absurd (never i (sym e))
-
-  -- THE WAYS through the call
-  module _ (v : Verdict) (ev : v ≡ sketchVerdict k g) (ok : Bool) (asked : ok ≡ isAccepted v) where
-    pub audit-refused : not ok ≡ true → record { verdict = v; audit = finding.Sound } ≡ auditCall k g
-    unfolding auditCall
-    audit-refused n = rw (← ev) (ap (λ (f : Finding). record { verdict = v; audit = f }) (sym (refused-leaves v (auditOf k g) finding.Sound (turned-back v ok asked n))))
-
-    module _ (a : not ok ≡ false) where
-      found : (f : Finding) → f ≡ auditOf k g → record { verdict = v; audit = f } ≡ auditCall k g
-      unfolding auditCall
-      found f ef = rw (← ev, let-pass v ok asked a, ef) refl
-
-      module _ (w : Verdict) (ew : w ≡ refuseUnsound k g (allCells k) Accepted) (sound : Bool) (es : sound ≡ isAccepted w) where
-        is : auditOf k g ≡ told w
-        is = told-cells (allCells k) ∙ ap told (sym ew)
-
-        pub audit-sound : sound ≡ true → record { verdict = v; audit = finding.Sound } ≡ auditCall k g
-        audit-sound t = found finding.Sound (sym (is ∙ rw (← es, t) refl))
-
-        pub audit-unsound : (index : ℕ) → index ≡ indexOf w → sound ≡ false → record { verdict = v; audit = finding.Unsound index } ≡ auditCall k g
-        audit-unsound index ei t = found (finding.Unsound index) (sym (is ∙ rw (← es, t, ← ei) refl))

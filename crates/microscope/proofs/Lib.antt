@@ -8,9 +8,7 @@ pub mod FigureLaws
 pub mod SketchGates
 pub mod ReadyLaws
 pub mod FreshLaws
-pub mod BucketLaws
 pub mod AuditLaws
-pub mod HighestLaws
 pub mod ReadingLaws
 pub mod JudgeCases
 pub mod JudgeLoops

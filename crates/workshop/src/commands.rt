@@ -17,7 +17,7 @@ use microscope::Finding;
 use microscope::MicroCm;
 
 fn audit(sketch: MicroCm, grid: &[u8]) {
-    let answer = microscope::audit(sketch, grid);
+    let answer = auditing::audit(sketch, grid);
     let verdict = answer.verdict;
     if !verdict.accepted() {
         verdicts::refused(verdict);
@@ -32,7 +32,7 @@ fn audit(sketch: MicroCm, grid: &[u8]) {
 }
 
 fn zoom(sketch: MicroCm, grid: &[u8]) {
-    let answer = microscope::max_zoom(sketch, grid);
+    let answer = auditing::max_zoom(sketch, grid);
     let verdict = answer.verdict;
     if !verdict.accepted() {
         verdicts::refused(verdict);

@@ -111,7 +111,7 @@ fn unsound(sketch: MicroCm, row: usize, col: usize, cell: &[u8]) {
 fn draw_judged(sketch: MicroCm, row: usize, col: usize, grid: &[u8]) {
     let params = sketch.params;
     let clock = sketch.clock;
-    let cell = microscope::bucket_slice(sketch, row, col, grid);
+    let cell = auditing::bucket_slice(sketch, row, col, grid);
     let verdict = cell_reading::judge(cell, params);
     if !verdict.accepted() {
         unsound(sketch, row, col, cell);
@@ -122,7 +122,7 @@ fn draw_judged(sketch: MicroCm, row: usize, col: usize, grid: &[u8]) {
 }
 
 fn draw_at(sketch: MicroCm, row: usize, col: usize, grid: &[u8]) {
-    let verdict = microscope::bucket_check(sketch, row, col, grid);
+    let verdict = auditing::bucket_check(sketch, row, col, grid);
     if !verdict.accepted() {
         verdicts::refused(verdict);
         return;
@@ -147,7 +147,7 @@ pub fn one_cell(line: &[u8], sketch: MicroCm, grid: &[u8]) {
 // What a cell's place on the map shows: its zoom, and 99 if it is unsound.
 pub fn zoom_at(sketch: MicroCm, row: usize, col: usize, grid: &[u8]) -> u8 {
     let params = sketch.params;
-    let answer = cell_reading::zoom(microscope::bucket_slice(sketch, row, col, grid), params);
+    let answer = cell_reading::zoom(auditing::bucket_slice(sketch, row, col, grid), params);
     let verdict = answer.verdict;
     if !verdict.accepted() {
         return 99;
@@ -231,7 +231,7 @@ fn group_of(cols: usize) -> usize {
 }
 
 pub fn map(sketch: MicroCm, grid: &[u8]) {
-    let verdict = microscope::bucket_check(sketch, 0, 0, grid);
+    let verdict = auditing::bucket_check(sketch, 0, 0, grid);
     if !verdict.accepted() {
         verdicts::refused(verdict);
         return;

@@ -44,7 +44,7 @@ pub fn perform(
             reading::estimate_with(sketch, key, reader::float(call.argument), &grid[..]),
         ),
         8 => merged(sketch, grid, other, other_grid),
-        9 => highest(sketch, microscope::max_zoom(sketch, &grid[..])),
+        9 => highest(sketch, auditing::max_zoom(sketch, &grid[..])),
         10 => still(written(shown, grid), sketch),
         _ => still(answer::NO_SUCH_KIND, sketch),
     }

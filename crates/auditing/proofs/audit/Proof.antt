@@ -1,9 +1,9 @@
 -- `audit`: it names the cell by which a verdict of 14 would turn a call back. Assumes nothing.
-use Rattle.microscope.proofs.AuditLaws.{audit-refused, audit-sound, audit-unsound}
-use Rattle.microscope.proofs.HighestLaws.{passed-ready}
+use Rattle.auditing.proofs.AuditCases.{audit-refused, audit-sound, audit-unsound}
+use Rattle.auditing.proofs.HighestLaws.{passed-ready}
 use borrow.Author.Needs.{needs}
-use Rattle.microscope.proofs.audit.Statement.{statement}
-use Rattle.microscope.proofs.audit.Tie as tie
+use Rattle.auditing.proofs.audit.Statement.{statement}
+use Rattle.auditing.proofs.audit.Tie as tie
 
 sketch-requires : tie.Need-sketch-requires
 sketch-requires c κs = search needs

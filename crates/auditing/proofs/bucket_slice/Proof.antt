@@ -1,8 +1,8 @@
 -- `bucket_slice`: what the check accepts has a cell in the grid, and the part is that cell. Assumes nothing.
-use Rattle.microscope.proofs.BucketLaws.{bucket-none, bucket-ready, bucket-row, bucket-col, bucket-rows, bucket-cols, bucket-short, bucket-is}
+use Rattle.auditing.proofs.BucketLaws.{bucket-none, bucket-ready, bucket-row, bucket-col, bucket-rows, bucket-cols, bucket-short, bucket-is}
 use borrow.Author.Needs.{needs}
-use Rattle.microscope.proofs.bucket_slice.Statement.{statement}
-use Rattle.microscope.proofs.bucket_slice.Tie as tie
+use Rattle.auditing.proofs.bucket_slice.Statement.{statement}
+use Rattle.auditing.proofs.bucket_slice.Tie as tie
 
 bucket-check-requires : tie.Need-bucket-check-requires
 bucket-check-requires c κs = search needs

@@ -1,8 +1,8 @@
 -- `bucket_check`: the sketch, then the row and the column. Assumes nothing.
-use Rattle.microscope.proofs.BucketLaws.{check-refused, row-refused, col-refused, check-passed}
+use Rattle.auditing.proofs.BucketLaws.{check-refused, row-refused, col-refused, check-passed}
 use borrow.Author.Needs.{needs}
-use Rattle.microscope.proofs.bucket_check.Statement.{statement}
-use Rattle.microscope.proofs.bucket_check.Tie as tie
+use Rattle.auditing.proofs.bucket_check.Statement.{statement}
+use Rattle.auditing.proofs.bucket_check.Tie as tie
 
 sketch-requires : tie.Need-sketch-requires
 sketch-requires c κs = search needs

@@ -1,10 +1,10 @@
 -- `zoom`: the largest of the cells before this one. Assumes nothing.
-use Rattle.microscope.proofs.HighestLaws.{Highest, cells-some, highest-begin, highest-on, highest-end}
+use Rattle.auditing.proofs.HighestLaws.{Highest, cells-some, highest-begin, highest-on, highest-end}
 use Rattle.microscope.proofs.AddressLaws.{cells-fit, index-next}
 use Prim.Native.Nat.{_-_}
 use borrow.Author.Needs.{needs}
-use Rattle.microscope.proofs.highest.zoom.Statement.{statement}
-use Rattle.microscope.proofs.highest.zoom.Tie as tie
+use Rattle.auditing.proofs.highest.zoom.Statement.{statement}
+use Rattle.auditing.proofs.highest.zoom.Tie as tie
 
 abbrev Inv-loop : tie.InvT-loop
 Inv-loop sketch grid count highest₀ index₀ highest index = Highest sketch grid count index highest

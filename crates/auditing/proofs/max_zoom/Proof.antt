@@ -1,8 +1,8 @@
 -- `max_zoom`: every cell was judged before the largest zoom is told. Assumes nothing.
-use Rattle.microscope.proofs.HighestLaws.{zoom-untold, zoom-ready, zoom-told}
+use Rattle.auditing.proofs.HighestLaws.{zoom-untold, zoom-ready, zoom-told}
 use borrow.Author.Needs.{needs}
-use Rattle.microscope.proofs.max_zoom.Statement.{statement}
-use Rattle.microscope.proofs.max_zoom.Tie as tie
+use Rattle.auditing.proofs.max_zoom.Statement.{statement}
+use Rattle.auditing.proofs.max_zoom.Tie as tie
 
 judge-requires : tie.Need-judge-requires
 judge-requires c κs = search needs

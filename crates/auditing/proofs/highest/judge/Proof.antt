@@ -1,8 +1,8 @@
 -- `judge`: the sketch, then what its cells say. Assumes nothing.
-use Rattle.microscope.proofs.HighestLaws.{highest-refused, passed-ready, highest-cells}
+use Rattle.auditing.proofs.HighestLaws.{highest-refused, passed-ready, highest-cells}
 use borrow.Author.Needs.{needs}
-use Rattle.microscope.proofs.highest.judge.Statement.{statement}
-use Rattle.microscope.proofs.highest.judge.Tie as tie
+use Rattle.auditing.proofs.highest.judge.Statement.{statement}
+use Rattle.auditing.proofs.highest.judge.Tie as tie
 
 sketch-requires : tie.Need-sketch-requires
 sketch-requires c κs = search needs

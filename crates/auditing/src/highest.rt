@@ -1,16 +1,16 @@
 // The present highest zoom of any cell.
-use crate::MicroCm;
-use crate::grid;
-use crate::judge;
+use microscope::MicroCm;
+use microscope::grid;
+use microscope::judge;
 use refusal::Verdict;
 ghost use mathlib.Core.Path.{_≡_};
 ghost use Prim.Native.Nat.{_<_, max};
 ghost use lib.ListN.{length};
 ghost use Rattle.cell.specs.Cell.{zoomOf};
 ghost use Rattle.microscope.specs.Sketch.{cellsOf, cellOf};
 ghost use Rattle.microscope.specs.Audit.{highestZoom};
 ghost use Rattle.microscope.specs.Refusals.{highestVerdict};
 ghost use Rattle.microscope.specs.Workers.{Ready};
 
 // 1 to 6, then 14 over every cell.
 pub fn judge(sketch: MicroCm, grid: &[u8]) -> Verdict

@@ -1,8 +1,8 @@
 -- `zoom_at`: the part that is lent is the cell. Assumes nothing.
-use Rattle.microscope.proofs.HighestLaws.{zoom-lent}
+use Rattle.auditing.proofs.HighestLaws.{zoom-lent}
 use borrow.Author.Needs.{needs}
-use Rattle.microscope.proofs.highest.zoom_at.Statement.{statement}
-use Rattle.microscope.proofs.highest.zoom_at.Tie as tie
+use Rattle.auditing.proofs.highest.zoom_at.Statement.{statement}
+use Rattle.auditing.proofs.highest.zoom_at.Tie as tie
 
 start-of-requires : tie.Need-start-of-requires
 start-of-requires c κs = search needs

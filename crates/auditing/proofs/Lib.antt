@@ -1,0 +1,3 @@
+pub mod AuditCases
+pub mod BucketLaws
+pub mod HighestLaws
