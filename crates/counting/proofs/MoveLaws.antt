@@ -6,7 +6,7 @@ use mathlib.Core.List.{List}
 use native.Mathlib.Omega.{arith}
 use lib.Dec.{eqb}
 use lib.ListN.{take-append-drop}
-use borrow.Author.Tests.{eqb-true, not-true, not-false}
+use borrow.Author.Tests.{eqb-true, eq-eqb, ne-eqb, not-true, not-false}
 use Rattle.laws.specs.Steps.{still}
 use Rattle.laws.specs.Passes.{eachOf}
 use Rattle.cell.specs.Cell.{depthOf}
@@ -46,3 +46,15 @@ cross-rose k old new false e g σ =
     let same : new ≡ old = eqb-true new old (not-false (eqb new old) (sym e)) in
     let none : new - old ≡ 0 = omega (arith, same) in
     rw none (sym (cross-none k new g σ))
+
+-- the two ways on of `advance_to`, which tests n itself
+module _ (k : MicroCm) (old new : ℕ) (g : List ℕ) where
+  pub stays : new ≡ old → (σ : ℕ) → passOf g (record { state = σ; draws = 0 }) ≡ cross k (not (eqb new old)) old new g σ
+  stays e σ = rw (eq-eqb new old e) refl
+
+  pub rises : (new ≡ old → ⊥) → (σ : ℕ) (l : List ℕ) (r : Passed) → passOf l r ≡ eachOf (crossPiece (k .params .t) (k .params .c) new (new - old)) (depthOf (k .params .t)) 0 (cellsOf k) g σ
+      → passOf l r ≡ cross k (not (eqb new old)) old new g σ
+  rises e σ l r er = rw (ne-eqb new old e) er
+
+  pub rose-sound : (new ≡ old → ⊥) → SoundIf (not (eqb new old)) (k .params .t) (k .params .c) (cellsOf k) g → SoundCells (k .params .t) (k .params .c) (cellsOf k) g
+  rose-sound e s = s .sound (rw (ne-eqb new old e) refl)

@@ -79,19 +79,27 @@ pub fn advance_to(sketch: MicroCm, timestamp: u64, grid: &mut [u8]) -> SketchAns
             draws: 0,
         };
     }
-    let moved = worker::moved(
-        sketch.rows * sketch.cols,
+    if new == old {
+        return SketchAnswer {
+            verdict,
+            sketch: worker::went_on(sketch, after, rounding.state),
+            draws: 0,
+        };
+    }
+    let cells = sketch.rows * sketch.cols;
+    let begun = new - old;
+    let crossed = recording::cross_cells(
+        grid,
         params.t,
         params.c,
-        new != old,
-        old,
+        cells,
         new,
+        begun,
         rounding.state,
-        grid,
     );
     SketchAnswer {
         verdict,
-        sketch: worker::went_on(sketch, after, moved.state),
-        draws: moved.draws,
+        sketch: worker::went_on(sketch, after, crossed.state),
+        draws: crossed.draws,
     }
 }
