@@ -1,6 +1,6 @@
 -- `merge_by`: both zooms are at most the target, to which the pixels, the carry and the rest are taken. Assumes nothing.
 use Rattle.cell.proofs.MergeLaws.{target-high, target-high', target-low}
-use Rattle.cell.proofs.InsertionCases.{slot-read}
+use Rattle.cell.proofs.CellLaws.{slot-read}
 use Rattle.merging.proofs.MergeCases.{merged-is}
 use borrow.Author.Needs.{needs}
 use Rattle.merging.proofs.merge.merge_by.Statement.{statement}
