@@ -191,8 +191,8 @@ pub fn put(reading: &mut u64, state: &mut u64, answer: SketchAnswer) -> PlainCha
     ensures { λ r. ⌜ (r ≡ toldOf answer) × (now (reading .exit) ≡ readingAfter (now (reading .entry)) answer) × (now (state .exit) ≡ stateAfter (now (state .entry)) answer) ⌝ }
 {
     let told = change(answer);
-    let verdict = answer.verdict;
-    if !verdict.accepted() {
+    let judged = answer.verdict;
+    if !judged.accepted() {
         return told;
     }
     let sketch = answer.sketch;
