@@ -1,4 +1,1 @@
-pub mod CrossingLoops
-pub mod CrossingCases
-pub mod FlatLaws
 pub mod CrossingCalls

@@ -1,5 +1,5 @@
 // Document 01, "Crossing" (cell.rs): a cell moves on into a later sub-window.
-pub mod worker;
+mod worker;
 
 use cell::CellAnswer;
 use cell::MicroParams;

@@ -1,6 +1,5 @@
 // Document 01, "Merge" (cell.rs): what two cells counted becomes the count of one.
 pub mod merge;
-pub mod sums;
 
 use cell::CellAnswer;
 use cell::MicroParams;

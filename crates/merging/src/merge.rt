@@ -1,5 +1,4 @@
 // Document 01, "Merge" (`merge_cells`): the counts of src are added to dst's.
-use crate::sums;
 use cell::CellAnswer;
 use cell::Drawn;
 use cell::MicroParams;
@@ -114,7 +113,7 @@ fn merge_by(
 {
     let target = larger_zoom(&dst[..], &src[..], t);
     let carry = carry_of(&dst[..], &src[..], t, c, target);
-    let summed = sums::sum_up(
+    let summed = summing::sum_up(
         sums,
         &dst[..],
         &src[..],

@@ -1,5 +1,1 @@
-pub mod FigureCases
-pub mod FigureLoops
-pub mod FigureBounds
-pub mod EstimateCases
 pub mod ReadLaws

@@ -21,8 +21,8 @@ use Rattle.microscope.specs.Refusals.{keyFits, refuseSketch, refuseKey, readVer
 use Rattle.microscope.specs.Workers.{Ready, Readable}
 use Rattle.microscope.proofs.ReadyLaws.{keyed-ready}
 use Rattle.microscope.proofs.ReadingLaws.{keyed, keyed-gate, cells, fractionThen}
-use Rattle.reading.specs.declared.Estimated.{Estimated}
-use Rattle.reading.specs.Workers.{estimateOf}
+use Rattle.figures.specs.declared.Estimated.{Estimated}
+use Rattle.figures.specs.Workers.{estimateOf}
 
 -- THE FRACTION
 module _ (k : MicroCm) (fraction : Float) (n : ℕ) (en : n ≡ nOf (k .clock)) where

@@ -1,7 +1,7 @@
 // Document 01, "Figures": what a sketch says of a key.
-pub mod figures;
 mod judge;
 
+use figures::Estimated;
 use microscope::MeanAnswer;
 use microscope::MicroCm;
 use microscope::Reading;
@@ -9,19 +9,6 @@ use microscope::ReadingAnswer;
 use refusal::Verdict;
 ghost use mathlib.Core.Path.{_≡_};
 ghost use Rattle.microscope.specs.Refusals.{noReading, readCall, readWithCall, meanCall};
-
-// A whole number below 2^53 and the same number as f64.
-pub struct Exact {
-    pub whole: u64,
-    pub value: f64,
-}
-
-// A reading beside the same figures as whole numbers.
-pub struct Estimated {
-    pub reading: Reading,
-    pub over: u64,
-    pub under: u64,
-}
 
 fn turned_back(verdict: Verdict) -> ReadingAnswer
     ensures { λ r. ⌜ r ≡ record { verdict = verdict; reading = noReading; over = 0; under = 0 } ⌝ }

@@ -87,7 +87,7 @@ pub fn cross_cells(
     let mut index: usize = 0;
     while index < count {
         let end = start + depth;
-        let drawn = crossing::worker::enter_sub_window(
+        let drawn = entering::enter_sub_window(
             &mut grid[start..end],
             t,
             c,

@@ -1,0 +1,3 @@
+pub mod CrossingLoops
+pub mod CrossingCases
+pub mod FlatLaws

@@ -1,0 +1,4 @@
+pub mod FigureCases
+pub mod FigureLoops
+pub mod FigureBounds
+pub mod EstimateCases
