@@ -1,12 +1,13 @@
 -- The calls from verdict to answer: either way out is what the definition gives there.
-use Prim.Native.Nat.{ℕ, _≤_}
-use mathlib.Core.Path.{_≡_, refl, sym, ap, _∙_}
+use Prim.Native.Nat.{ℕ}
+use mathlib.Core.Path.{_≡_, refl, ap, _∙_}
 use mathlib.Core.Bool.{Bool, true, false, not}
 use mathlib.Core.List.{List}
 use lib.Dec.{eqb}
 use native.Mathlib.Omega.{arith}
 use native.Mathlib.Nat.{zero-add}
-use Rattle.laws.specs.Steps.{Step, still}
+use borrow.Author.Tests.{eq-eqb, ne-eqb}
+use Rattle.laws.specs.Steps.{Step}
 use Rattle.refusal.specs.declared.Verdict.{Verdict}
 use Rattle.refusal.specs.Refusals.{isAccepted}
 use Rattle.refusal.proofs.VerdictLaws.{refused-leaves, turned-back, let-pass}
@@ -14,7 +15,7 @@ use Rattle.clock.specs.declared.SubWindowClock.{SubWindowClock}
 use Rattle.clock.specs.Clock.{Onward, nOf, isCount, tickOf, advanceOf}
 use Rattle.microscope.specs.declared.MicroCm.{MicroCm}
 use Rattle.microscope.specs.declared.Passed.{Passed}
-use Rattle.microscope.specs.Sketch.{World, moved, crossEach, updated, updatedAt, advanced}
+use Rattle.microscope.specs.Sketch.{World, moved, updated, updatedAt, advanced}
 use Rattle.microscope.specs.Refusals.{sketchOutcome, sketchCall, world, updateVerdict, updateCall, updateAtVerdict, updateAtCall, advanceVerdict, advanceCall}
 use Rattle.microscope.specs.Workers.{passOf}
 use Rattle.counting.specs.declared.worker.Counted.{Counted}
@@ -92,13 +93,22 @@ module _ (k : MicroCm) (g : List ℕ) (clock : SubWindowClock) (counts : Bool) (
       unfolding advanceCall
       advance-refused h = as-found v (advanceVerdict k timestamp g) advance-told ok asked (advanced timestamp (world k g)) (world k g) h g refl
 
-      module _ (old new : ℕ) (eo : old ≡ nOf (k .clock)) (en : new ≡ nOf clock) (l : List ℕ) (r : Passed) (er : passOf l r ≡ cross k (not (eqb new old)) old new g (k .rounding .state)) where
-        there : left k clock (passOf l r) ≡ moved clock (world k g)
+      module _ (a : not ok ≡ false) (old new : ℕ) (eo : old ≡ nOf (k .clock)) (en : new ≡ nOf clock) where
+        there : (moves : Bool) → moves ≡ not (eqb new old) → (l : List ℕ) (r : Passed) → passOf l r ≡ cross k moves old new g (k .rounding .state) → left k clock (passOf l r) ≡ moved clock (world k g)
         unfolding moved
-        there = ap (left k clock) (er ∙ cross-rose k old new _ refl g (k .rounding .state)) ∙ rw (← eo, ← en) (simp zero-add)
+        there moves em l r er = ap (left k clock) (er ∙ cross-rose k old new moves em g (k .rounding .state)) ∙ rw (← eo, ← en) (simp zero-add)
 
-        pub advance-done : not ok ≡ false → (y : MicroCm) → y ≡ taking k clock (r .state) → sketchOutcome (record { verdict = v; sketch = y; draws = r .draws }) l ≡ advanceCall k timestamp g
+        advanced-to : (l : List ℕ) (r : Passed) → left k clock (passOf l r) ≡ moved clock (world k g) → (y : MicroCm) → y ≡ taking k clock (r .state)
+            → sketchOutcome (record { verdict = v; sketch = y; draws = r .draws }) l ≡ advanceCall k timestamp g
         unfolding advanceCall
-        advance-done a y ey =
-            let w : World = record { sketch = taking k clock (r .state); grid = l; draws = r .draws } in
-            rw ey (as-done v (advanceVerdict k timestamp g) advance-told ok asked (advanced timestamp (world k g)) (world k g) a w (there ∙ rw (on .is) refl))
+        advanced-to l r e y ey =
+            rw ey (as-done v (advanceVerdict k timestamp g) advance-told ok asked (advanced timestamp (world k g)) (world k g) a (left k clock (passOf l r)) (e ∙ rw (on .is) refl))
+
+        pub advance-stays : new ≡ old → (y : MicroCm) → y ≡ taking k clock (k .rounding .state) → sketchOutcome (record { verdict = v; sketch = y; draws = 0 }) g ≡ advanceCall k timestamp g
+        advance-stays e =
+            let none : Passed = record { state = k .rounding .state; draws = 0 } in
+            advanced-to g none (there false (rw (eq-eqb new old e) refl) g none refl)
+
+        pub advance-crossed : (new ≡ old → ⊥) → (l : List ℕ) (r : Passed) → passOf l r ≡ cross k true old new g (k .rounding .state)
+            → (y : MicroCm) → y ≡ taking k clock (r .state) → sketchOutcome (record { verdict = v; sketch = y; draws = r .draws }) l ≡ advanceCall k timestamp g
+        advance-crossed rose l r er = advanced-to l r (there true (rw (ne-eqb new old rose) refl) l r er)

@@ -79,6 +79,8 @@ pub fn advance_to(sketch: MicroCm, timestamp: u64, grid: &mut [u8]) -> SketchAns
             draws: 0,
         };
     }
+    // Within its sub-window no cell is looked at. The crossing is called here and not by `worker::moved`: with one caller it
+    // would be compiled into that, which every update runs through twice.
     if new == old {
         return SketchAnswer {
             verdict,
@@ -86,8 +88,8 @@ pub fn advance_to(sketch: MicroCm, timestamp: u64, grid: &mut [u8]) -> SketchAns
             draws: 0,
         };
     }
-    let cells = sketch.rows * sketch.cols;
     let begun = new - old;
+    let cells = sketch.rows * sketch.cols;
     let crossed = recording::cross_cells(
         grid,
         params.t,
