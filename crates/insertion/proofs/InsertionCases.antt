@@ -9,10 +9,11 @@ use native.Mathlib.Omega.{arith}
 use borrow.Author.Tests.{lt-ltb, le-ltb}
 use Rattle.laws.specs.Steps.{still}
 use Rattle.cell.specs.declared.Drawn.{Drawn}
-use Rattle.cell.specs.Cell.{pixelsOf, slotOf, pixelOf, zoomOf, shutterOf, unitOf, withZoom, withShutter, maxZoom, soundOf}
+use Rattle.cell.specs.Cell.{pixelsOf, slotOf, pixelOf, zoomOf, shutterOf, unitOf, withPixel, withZoom, withShutter, maxZoom, soundOf}
 use Rattle.cell.specs.Insertion.{divideEach, pixelStep, zoomOutOf, creditOf, insertOf}
 use Rattle.cell.specs.Workers.{Fit, Judged, stepOf}
-use Rattle.cell.proofs.CellLaws.{with-zoom-pixels, with-shutter-none}
+use Rattle.cell.proofs.CellLaws.{slot-read, with-zoom-pixels, with-shutter-none}
+use Rattle.cell.proofs.InsertionLaws.{credit-gained}
 use Rattle.cell.proofs.SoundLaws.{sound-flat, sound-unit}
 
 module _ (t c slot : ℕ) (b : List ℕ) (σ z top : ℕ) (full : 255 ≤ pixelOf b slot) (zoom : z ≡ zoomOf t b) (limit : top ≡ maxZoom c) where
@@ -50,6 +51,14 @@ insert-flat t c n b σ fit sound z zoom flat slot l r es e =
     let none : shutterOf t b ≡ 0 = sound-flat t c b sound (sym zoom ∙ flat) in
     let one : 1 ≡ unitOf t c b = rw (← zoom, flat) (sym (pow-zero c)) in
     insert-credits t c n b σ 0 1 (sym none) one b l slot r (omega arith) (sym (with-shutter-none t b (fit .size-is) none)) es e
+
+pub slot-in-cell : (t c n : ℕ) (b : List ℕ) → Fit t c (length b) → (slot : ℕ) → slot ≡ slotOf t n → slot < length b
+slot-in-cell t c n b fit slot es = omega (arith, slot-read t n slot es, fit .size-is)
+
+pub flat-gained : (t c n : ℕ) (b : List ℕ) (σ : ℕ) → Fit t c (length b) → soundOf t c b ≡ true → (z : ℕ) → z ≡ zoomOf t b → z ≡ 0 → (slot : ℕ) → slot ≡ slotOf t n → pixelOf b slot < 255
+    → still (withPixel slot (pixelOf b slot + 1) b) σ ≡ insertOf t c n b σ
+flat-gained t c n b σ fit sound z zoom flat slot es h =
+    insert-flat t c n b σ fit sound z zoom flat slot (withPixel slot (pixelOf b slot + 1) b) (record { state = σ; draws = 0 }) es (credit-gained t c slot b σ h)
 
 pub next-shutter-fits : (t c : ℕ) (b : List ℕ) (s unit : ℕ) → Judged t c b s unit → s + 1 < unit → s + 1 < 2 ^ 32
 next-shutter-fits t c b s unit j h = omega (arith, j .unit-is, sound-unit t c b (j .sound) (j .fit .c-low))

@@ -13,7 +13,7 @@ ghost use mathlib.Core.Bool.{true};
 ghost use Prim.Native.Nat.{_+_, _≤_, _<_};
 ghost use lib.ListN.{length, set};
 ghost use Rattle.rounding.specs.Draws.{roundedDiv};
-ghost use Rattle.cell.specs.Cell.{pixelsOf, slotOf, soundOf};
+ghost use Rattle.cell.specs.Cell.{pixelsOf, pixelOf, slotOf, soundOf};
 ghost use Rattle.cell.specs.Insertion.{divideEach, creditOf, insertOf};
 ghost use Rattle.cell.specs.Refusals.{cellOutcome, insertCall};
 ghost use Rattle.cell.specs.Workers.{Fit, Judged, HeldOf, stepOf};
@@ -62,7 +62,23 @@ fn divide_pixels(pixels: &mut [u8], c: u32, slot: usize, state: u64) -> Drawn
     }
 }
 
-// A unit for the pixel. Where it has no room the cell zooms out, and at max_zoom the unit is dropped.
+// A unit for a pixel that has no room for it: the cell zooms out, and at max_zoom the unit is dropped. Called from two
+// places, it is kept out of the way of the many items that only add 1.
+fn zoom_out(cell: &mut [u8], t: usize, c: u32, slot: usize, state: u64) -> Drawn
+    requires { ⌜ Fit t c (length (now cell)) × (slot < pixelsOf t) × (255 ≤ pixelOf (now cell) slot) ⌝ }
+    ensures { λ r. ⌜ stepOf (now (cell .exit)) r ≡ creditOf t c slot (now (cell .entry)) state ⌝ }
+    ensures { λ r. ⌜ r .draws ≤ t + 2 ⌝ }
+{
+    let zoom = layout::zoom(&cell[..], t);
+    if zoom < power::max_zoom(c) {
+        layout::set_zoom(cell, t, zoom + 1);
+        let pixels = layout::pixels(t);
+        return divide_pixels(&mut cell[..pixels], c, slot, state);
+    }
+    Drawn { state, draws: 0 }
+}
+
+// A unit for the pixel.
 pub fn credit_pixel(cell: &mut [u8], t: usize, c: u32, slot: usize, state: u64) -> Drawn
     requires { ⌜ Fit t c (length (now cell)) × (slot < pixelsOf t) ⌝ }
     ensures { λ r. ⌜ stepOf (now (cell .exit)) r ≡ creditOf t c slot (now (cell .entry)) state ⌝ }
@@ -73,13 +89,7 @@ pub fn credit_pixel(cell: &mut [u8], t: usize, c: u32, slot: usize, state: u64) 
         cell[slot] = pixel + 1;
         return Drawn { state, draws: 0 };
     }
-    let zoom = layout::zoom(&cell[..], t);
-    if zoom < power::max_zoom(c) {
-        layout::set_zoom(cell, t, zoom + 1);
-        let pixels = layout::pixels(t);
-        return divide_pixels(&mut cell[..pixels], c, slot, state);
-    }
-    Drawn { state, draws: 0 }
+    zoom_out(cell, t, c, slot, state)
 }
 
 // An item of sub-window n, for a cell whose shutter and unit the caller has read already. The caller knows the pixel of
@@ -106,7 +116,8 @@ pub fn insert_judged(
     credit_pixel(cell, t, c, slot, state)
 }
 
-// An item of sub-window n. Most cells have zoom 0: then the shutter is empty, and an item is a unit for the pixel.
+// An item of sub-window n. Most cells have zoom 0: then the shutter is empty, and an item is a unit for the pixel, which is
+// written out here so that it is all that such an item runs through.
 pub fn insert(cell: &mut [u8], t: usize, c: u32, n: u64, slot: usize, state: u64) -> Drawn
     requires { ⌜ Fit t c (length (now cell)) × (soundOf t c (now cell) ≡ true) × (slot ≡ slotOf t n) ⌝ }
     ensures { λ r. ⌜ stepOf (now (cell .exit)) r ≡ insertOf t c n (now (cell .entry)) state ⌝ }
@@ -114,7 +125,12 @@ pub fn insert(cell: &mut [u8], t: usize, c: u32, n: u64, slot: usize, state: u64
 {
     let zoom = layout::zoom(&cell[..], t);
     if zoom == 0 {
-        return credit_pixel(cell, t, c, slot, state);
+        let pixel = cell[slot];
+        if pixel < 255 {
+            cell[slot] = pixel + 1;
+            return Drawn { state, draws: 0 };
+        }
+        return zoom_out(cell, t, c, slot, state);
     }
     let shutter = layout::shutter(&cell[..], t);
     let unit = power::unit(c, zoom);

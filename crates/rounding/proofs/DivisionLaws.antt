@@ -1,6 +1,6 @@
 -- What a rounded division gives, read off its two cases. Assumes nothing.
 use Prim.Native.Nat.{ℕ, _+_, _/_, _%_, _≤_, _<_}
-use mathlib.Core.Path.{_≡_, refl, ap}
+use mathlib.Core.Path.{_≡_, refl, ap, _∙_}
 use mathlib.Core.Bool.{Bool, true, false, cond}
 use native.Mathlib.Omega.{arith}
 use native.Mathlib.Nat.{div-add-mod', le-mul-of-pos-right}
@@ -14,6 +14,10 @@ use Rattle.rounding.specs.Draws.{nextState, yielded, drawOf, stateAfter,
 both : {A : Type 0} (P : A → Type 0) (b : Bool) (x y : A) → P x → P y → P (cond b x y)
 both P true x y p q = p
 both P false x y p q = q
+
+-- the usual base, known to the compiler
+pub halved : (v d σ : ℕ) (r : Divided) → d ≡ 2 → r ≡ roundedDiv v 2 σ → r ≡ roundedDiv v d σ
+halved v d σ r e er = er ∙ rw e refl
 
 module _ (v d σ : ℕ) where
   -- the three cases, as the code comes to them

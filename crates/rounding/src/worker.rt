@@ -37,8 +37,18 @@ pub fn draw(state: u64) -> Draw
     }
 }
 
-// value / divisor, rounded.
+// value / divisor, rounded. 2 is the usual base: known to the compiler, it is a shift.
 pub fn divide(value: u64, divisor: u64, state: u64) -> Divided
+    requires { ⌜ 0 < divisor ⌝ }
+    ensures { λ r. ⌜ r ≡ roundedDiv value divisor state ⌝ }
+{
+    if divisor == 2 {
+        return divide_by(value, 2, state);
+    }
+    divide_by(value, divisor, state)
+}
+
+fn divide_by(value: u64, divisor: u64, state: u64) -> Divided
     requires { ⌜ 0 < divisor ⌝ }
     ensures { λ r. ⌜ r ≡ roundedDiv value divisor state ⌝ }
 {
