@@ -110,7 +110,7 @@ struct Key {
 fn timed(calls: u64, mut ours: impl FnMut() -> Duration, theirs: Option<&mut dyn FnMut() -> Duration>) -> (f64, Option<f64>) {
     let mut best = (f64::INFINITY, f64::INFINITY);
     let mut theirs = theirs;
-    for _ in 0..7 {
+    for _ in 0..31 {
         best.0 = best.0.min(ours().as_nanos() as f64 / calls as f64);
         if let Some(theirs) = theirs.as_mut() {
             best.1 = best.1.min(theirs().as_nanos() as f64 / calls as f64);
