@@ -14,7 +14,7 @@
  * all of them only read. A sketch is 64 bytes that go in and come out by value, and a grid of bytes that is lent for
  * the length of a call. A call that may change the sketch gives the sketch to go on with: keep it, with its grid, in
  * place of the old one. Of a sketch only the clock's reading and the random state ever change; the calls that end in
- * _in_place change these two where the caller keeps them, and are quicker by a third.
+ * _in_place change these two where the caller keeps them, and are the quicker ones.
  *
  * LENDING. Bytes and columns are lent as an address and a length, in that order; lengths of bytes are in bytes, the
  * length of a key is in columns. The address must not be NULL, not even with length 0, and all of the length must be
