@@ -22,17 +22,17 @@ use Rattle.microscope.specs.Refusals.{SketchOutcome, sketchOutcome, freshCall, 
 use Rattle.store.specs.declared.LengthAnswer.{LengthAnswer}
 use Rattle.store.specs.declared.LoadAnswer.{LoadAnswer}
 use Rattle.store.specs.Refusals.{saveOutcome, loadOutcome, lengthCall, saveCall, loadCall}
-use Rattle.capi.specs.declared.PlainSketch.{PlainSketch}
-use Rattle.capi.specs.declared.PlainSettings.{PlainSettings}
-use Rattle.capi.specs.declared.PlainChange.{PlainChange}
-use Rattle.capi.specs.declared.PlainAnswer.{PlainAnswer}
-use Rattle.capi.specs.declared.PlainReading.{PlainReading}
-use Rattle.capi.specs.declared.PlainNumber.{PlainNumber}
-use Rattle.capi.specs.declared.PlainFigure.{PlainFigure}
-use Rattle.capi.specs.declared.PlainVerdict.{PlainVerdict}
-use Rattle.capi.specs.declared.PlainAudit.{PlainAudit}
-use Rattle.capi.specs.declared.PlainDrawn.{PlainDrawn}
-use Rattle.capi.specs.Edge.{clockOf, sketchOf, paramsOf, noPlain, settingsOf, sketchWith, readingAfter, stateAfter, toldOf, changedOf, changeOf, inPlace, plainOutcome, outcomeOf, answerOf, readingOf, valueOf, figureOf, meanOf, highestOf, verdictOf, auditOf, storeLengthOf, plainSave, saveOf, loadAnswerOf, loadOf, depthOf, zoomOf, shutterOf, pixelOf, plainCell, cellOf, drawnOf}
+use Rattle.plain.specs.declared.PlainSketch.{PlainSketch}
+use Rattle.plain.specs.declared.PlainSettings.{PlainSettings}
+use Rattle.plain.specs.declared.PlainChange.{PlainChange}
+use Rattle.plain.specs.declared.PlainAnswer.{PlainAnswer}
+use Rattle.plain.specs.declared.PlainReading.{PlainReading}
+use Rattle.plain.specs.declared.PlainNumber.{PlainNumber}
+use Rattle.plain.specs.declared.PlainFigure.{PlainFigure}
+use Rattle.plain.specs.declared.PlainVerdict.{PlainVerdict}
+use Rattle.plain.specs.declared.PlainAudit.{PlainAudit}
+use Rattle.plain.specs.declared.PlainDrawn.{PlainDrawn}
+use Rattle.plain.specs.Edge.{clockOf, sketchOf, paramsOf, noPlain, settingsOf, sketchWith, readingAfter, stateAfter, toldOf, changedOf, changeOf, inPlace, plainOutcome, outcomeOf, answerOf, readingOf, valueOf, figureOf, meanOf, highestOf, verdictOf, auditOf, storeLengthOf, plainSave, saveOf, loadAnswerOf, loadOf, depthOf, zoomOf, shutterOf, pixelOf, plainCell, cellOf, drawnOf}
 
 -- A FRESH START
 pub fresh-told : (none : PlainSketch) (clock : SubWindowClock) (rows cols t c kind length epoch seed : ℕ) (a : SketchAnswer) (l g : List ℕ) (r : PlainAnswer) → none ≡ noPlain → clock ≡ clockOf kind length epoch epoch

@@ -1,15 +1,14 @@
 // The calls on one cell, for teaching and test.
-use crate::PlainDrawn;
-use crate::PlainFigure;
-use crate::PlainNumber;
-use crate::PlainVerdict;
-use crate::plain;
 use cell::MicroLayout;
 use cell::MicroParams;
+use plain::PlainDrawn;
+use plain::PlainFigure;
+use plain::PlainNumber;
+use plain::PlainVerdict;
 use rounding::Rounding;
 ghost use mathlib.Core.Path.{_≡_};
 ghost use Rattle.cell.specs.Refusals.{layoutCall, maxZoomCall, cellVerdict, zoomCall, shutterCall, pixelCall, insertCall, crossCall, mergeCall};
-ghost use Rattle.capi.specs.Edge.{paramsOf, depthOf, zoomOf, shutterOf, pixelOf, verdictOf, plainCell, cellOf};
+ghost use Rattle.plain.specs.Edge.{paramsOf, depthOf, zoomOf, shutterOf, pixelOf, verdictOf, plainCell, cellOf};
 
 // How many bytes a cell takes.
 #[no_mangle]

@@ -1,18 +1,17 @@
 // The calls on a sketch. The grid and the key are the caller's.
-use crate::PlainAnswer;
-use crate::PlainAudit;
-use crate::PlainChange;
-use crate::PlainNumber;
-use crate::PlainReading;
-use crate::PlainSettings;
-use crate::PlainSketch;
-use crate::PlainVerdict;
-use crate::plain;
 use cell::MicroParams;
 use microscope::MicroCm;
+use plain::PlainAnswer;
+use plain::PlainAudit;
+use plain::PlainChange;
+use plain::PlainNumber;
+use plain::PlainReading;
+use plain::PlainSettings;
+use plain::PlainSketch;
+use plain::PlainVerdict;
 ghost use mathlib.Core.Path.{_≡_};
 ghost use Rattle.microscope.specs.Refusals.{freshCall, updateCall, updateAtCall, advanceCall, readCall, readWithCall, meanCall, bucketVerdict, highestCall, auditCall, mergeCall};
-ghost use Rattle.capi.specs.Edge.{clockOf, sketchOf, paramsOf, noPlain, plainOutcome, outcomeOf, changeOf, sketchWith, inPlace, readingOf, meanOf, highestOf, verdictOf, auditOf};
+ghost use Rattle.plain.specs.Edge.{clockOf, sketchOf, paramsOf, noPlain, plainOutcome, outcomeOf, changeOf, sketchWith, inPlace, readingOf, meanOf, highestOf, verdictOf, auditOf};
 
 // A fresh sketch: every byte of the grid is written 0. Any seed will do.
 #[no_mangle]

@@ -1,12 +1,11 @@
 // The calls on a store. The buffers are the caller's.
-use crate::PlainAnswer;
-use crate::PlainNumber;
-use crate::PlainSketch;
-use crate::PlainVerdict;
-use crate::plain;
+use plain::PlainAnswer;
+use plain::PlainNumber;
+use plain::PlainSketch;
+use plain::PlainVerdict;
 ghost use mathlib.Core.Path.{_≡_};
 ghost use Rattle.store.specs.Refusals.{lengthCall, saveCall, loadCall};
-ghost use Rattle.capi.specs.Edge.{sketchOf, plainOutcome, storeLengthOf, plainSave, saveOf, loadOf};
+ghost use Rattle.plain.specs.Edge.{sketchOf, plainOutcome, storeLengthOf, plainSave, saveOf, loadOf};
 
 // How many bytes a sketch's store takes.
 #[no_mangle]
