@@ -8,7 +8,8 @@ use Rattle.laws.specs.Steps.{Step}
 use Rattle.laws.specs.Figure.{figure}
 use Rattle.refusal.specs.declared.Verdict.{Verdict}
 use Rattle.refusal.specs.declared.Verdict.the-variants.{Accepted, Unsound}
-use Rattle.refusal.specs.Refusals.{refuse, outside, whenAccepted}
+use Rattle.refusal.specs.Refusals.{outside, whenAccepted}
+use Rattle.refusal.specs.Causes.{Cause, cause, unsound, refuseBy}
 use Rattle.rounding.specs.Refusals.{refuseState}
 use Rattle.cell.specs.declared.MicroParams.{MicroParams}
 use Rattle.cell.specs.declared.MicroLayout.{MicroLayout}
@@ -24,25 +25,42 @@ use Rattle.cell.specs.Crossing.{ceilingOf, crossOf}
 use Rattle.cell.specs.Merge.{mergeOf}
 
 -- THE CAUSES, each with its number
--- 2: c is not 2 to 256
-abbrev pub refuseBase : ℕ → Verdict → Verdict
-refuseBase c rest = refuse 2 (outside 2 256 c) rest
+-- 1: t is not 1 to 4,096
+abbrev pub badWindow : MicroParams → Cause
+badWindow p = cause 1 (outside 1 4096 (p .t))
 
--- 1: t is not 1 to 4,096; then 2
-abbrev pub refuseParams : MicroParams → Verdict → Verdict
-refuseParams p rest = refuse 1 (outside 1 4096 (p .t)) (refuseBase (p .c) rest)
+-- 2: c is not 2 to 256
+abbrev pub badBase : ℕ → Cause
+badBase c = cause 2 (outside 2 256 c)
 
 -- 6: a cell's bytes are not as many as its depth
-abbrev pub refuseDepth : MicroParams → List ℕ → Verdict → Verdict
-refuseDepth p b rest = refuse 6 (not (eqb (length b) (depthOf (p .t)))) rest
-
--- 14: the cell is unsound; in a call on one cell the index is 0
-abbrev pub refuseUnsound : MicroParams → List ℕ → Verdict → Verdict
-refuseUnsound p b rest = cond (soundOf (p .t) (p .c) b) rest (Unsound 0)
+abbrev pub badDepth : MicroParams → List ℕ → Cause
+badDepth p b = cause 6 (not (eqb (length b) (depthOf (p .t))))
 
 -- 9: 0 < crossed < t + 2 and crossed > new_n
+abbrev pub badCrossing : MicroParams → ℕ → ℕ → Cause
+badCrossing p n crossed = cause 9 (ltb 0 crossed && ltb crossed (pixelsOf (p .t)) && ltb n crossed)
+
+-- 14: the cell is unsound; in a call on one cell the index is 0
+abbrev pub badCell : MicroParams → List ℕ → Cause
+badCell p b = unsound 0 (not (soundOf (p .t) (p .c) b))
+
+-- A CAUSE, and what is said where it does not hold
+abbrev pub refuseBase : ℕ → Verdict → Verdict
+refuseBase c rest = refuseBy (badBase c) rest
+
+-- 1, then 2
+abbrev pub refuseParams : MicroParams → Verdict → Verdict
+refuseParams p rest = refuseBy (badWindow p) (refuseBase (p .c) rest)
+
+abbrev pub refuseDepth : MicroParams → List ℕ → Verdict → Verdict
+refuseDepth p b rest = refuseBy (badDepth p b) rest
+
 abbrev pub refuseCrossed : MicroParams → ℕ → ℕ → Verdict → Verdict
-refuseCrossed p n crossed rest = refuse 9 (ltb 0 crossed && ltb crossed (pixelsOf (p .t)) && ltb n crossed) rest
+refuseCrossed p n crossed rest = refuseBy (badCrossing p n crossed) rest
+
+abbrev pub refuseUnsound : MicroParams → List ℕ → Verdict → Verdict
+refuseUnsound p b rest = cond (soundOf (p .t) (p .c) b) rest (Unsound 0)
 
 -- THE SETTINGS
 abbrev pub paramsVerdict : MicroParams → Verdict

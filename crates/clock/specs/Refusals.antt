@@ -4,7 +4,8 @@ use mathlib.Core.Bool.{not}
 use Rattle.laws.specs.Figure.{figure}
 use Rattle.refusal.specs.declared.Verdict.{Verdict}
 use Rattle.refusal.specs.declared.Verdict.the-variants.{Accepted}
-use Rattle.refusal.specs.Refusals.{refuse, outside, whenAccepted}
+use Rattle.refusal.specs.Refusals.{outside, whenAccepted}
+use Rattle.refusal.specs.Causes.{Cause, cause, refuseBy}
 use Rattle.clock.specs.declared.SubWindowClock.{SubWindowClock}
 use Rattle.clock.specs.declared.ClockAnswer.{ClockAnswer}
 use Rattle.clock.specs.declared.SubWindowAnswer.{SubWindowAnswer}
@@ -12,20 +13,30 @@ use Rattle.clock.specs.declared.FractionAnswer.{FractionAnswer}
 use Rattle.clock.specs.declared.MovedAnswer.{MovedAnswer}
 use Rattle.clock.specs.Clock.{lengthOf, nOf, fractionOf, isCount, tickOf, advanceOf, crossedOf}
 
+-- THE CAUSES, each with its number
 -- 3: a length of 0 or above 2 ^ 53
+abbrev pub badLength : SubWindowClock → Cause
+badLength k = cause 3 (outside 1 (2 ^ 53) (lengthOf k))
+
+-- 8: an item for a clock of time
+abbrev pub isTimed : SubWindowClock → Cause
+isTimed k = cause 8 (not (isCount k))
+
+-- 8: a reading for a clock of items
+abbrev pub isCounted : SubWindowClock → Cause
+isCounted k = cause 8 (isCount k)
+
 abbrev pub refuseLength : SubWindowClock → Verdict → Verdict
-refuseLength k rest = refuse 3 (outside 1 (2 ^ 53) (lengthOf k)) rest
+refuseLength k rest = refuseBy (badLength k) rest
 
 abbrev pub lengthVerdict : SubWindowClock → Verdict
 lengthVerdict k = refuseLength k Accepted
 
--- 8: an item for a clock of time
 abbrev pub tickVerdict : SubWindowClock → Verdict
-tickVerdict k = refuseLength k (refuse 8 (not (isCount k)) Accepted)
+tickVerdict k = refuseLength k (refuseBy (isTimed k) Accepted)
 
--- 8: a reading for a clock of items
 abbrev pub advanceVerdict : SubWindowClock → Verdict
-advanceVerdict k = refuseLength k (refuse 8 (isCount k) Accepted)
+advanceVerdict k = refuseLength k (refuseBy (isCounted k) Accepted)
 
 -- a clock as it is made
 abbrev pub madeCall : SubWindowClock → ClockAnswer

@@ -1,6 +1,6 @@
 -- Document 01, "Turning a call back", for the calls on a sketch. Each call's answer, whole, and the bytes that it leaves.
 use Prim.Native.Nat.{ℕ, zero, suc, _*_, _^_}
-use mathlib.Core.Bool.{Bool, true, not, cond, _&&_, _||_}
+use mathlib.Core.Bool.{Bool, true, false, not, cond, _&&_, _||_}
 use mathlib.Core.List.{List, [], _∷_}
 use lib.Dec.{leb, ltb, eqb}
 use lib.Ieee.{Float}
@@ -9,14 +9,15 @@ use Rattle.laws.specs.Figure.{figure}
 use Rattle.laws.specs.Unit.{inUnit}
 use Rattle.refusal.specs.declared.Verdict.{Verdict}
 use Rattle.refusal.specs.declared.Verdict.the-variants.{Accepted, Unsound}
-use Rattle.refusal.specs.Refusals.{numberOf, refuse, whenAccepted}
+use Rattle.refusal.specs.Refusals.{numberOf, whenAccepted}
+use Rattle.refusal.specs.Causes.{Cause, cause, unsound, refuseBy}
 use Rattle.rounding.specs.Refusals.{refuseState}
 use Rattle.cell.specs.declared.MicroParams.{MicroParams}
 use Rattle.cell.specs.Refusals.{refuseParams}
 use Rattle.clock.specs.declared.SubWindowClock.{SubWindowClock}
 use Rattle.clock.specs.declared.SubWindowClock.the-variants.{CountBased}
-use Rattle.clock.specs.Clock.{nOf, fractionOf, isCount, tickOf, advanceOf, sameFrame}
-use Rattle.clock.specs.Refusals.{refuseLength}
+use Rattle.clock.specs.Clock.{nOf, fractionOf, tickOf, advanceOf, sameFrame}
+use Rattle.clock.specs.Refusals.{isTimed, isCounted, refuseLength}
 use Rattle.microscope.specs.declared.MicroCm.{MicroCm}
 use Rattle.microscope.specs.declared.SketchAnswer.{SketchAnswer}
 use Rattle.microscope.specs.declared.Reading.{Reading}
@@ -40,18 +41,13 @@ bitsUpTo (suc k) cols = cond (eqb cols (2 ^ suc k)) (suc k) (bitsUpTo k cols)
 unfoldable pub gridFits : ℕ → ℕ → Bool
 gridFits rows cols = leb 1 rows && leb 1 (bitsUpTo 16 cols) && leb (rows * bitsUpTo 16 cols) 128
 
--- 1 to 4: what a fresh start is given
-abbrev pub refuseSettings : ℕ → ℕ → MicroParams → SubWindowClock → Verdict → Verdict
-refuseSettings rows cols p clock rest = refuseParams p (refuseLength clock (refuse 4 (not (gridFits rows cols)) rest))
+-- 4: rows or cols
+abbrev pub badDimensions : ℕ → ℕ → Cause
+badDimensions rows cols = cause 4 (not (gridFits rows cols))
 
 -- 6: the grid's bytes are not rows × cols × depth
-abbrev pub refuseGrid : MicroCm → List ℕ → Verdict → Verdict
-refuseGrid k g rest = refuse 6 (not (eqb (length g) (gridBytes k))) rest
-
--- 1 to 6: a sketch that is handed in with its grid
-abbrev pub refuseSketch : MicroCm → List ℕ → Verdict → Verdict
-refuseSketch k g rest =
-    refuseSettings (k .rows) (k .cols) (k .params) (k .clock) (refuseState (k .rounding .state) (refuseGrid k g rest))
+abbrev pub badGrid : MicroCm → List ℕ → Cause
+badGrid k g = cause 6 (not (eqb (length g) (gridBytes k)))
 
 unfoldable pub allBelow : ℕ → List ℕ → Bool
 allBelow m [] = true
@@ -62,17 +58,59 @@ unfoldable pub keyFits : MicroCm → List ℕ → Bool
 keyFits k key = eqb (length key) (k .rows) && allBelow (k .cols) key
 
 -- 7: the columns
-abbrev pub refuseKey : MicroCm → List ℕ → Verdict → Verdict
-refuseKey k key rest = refuse 7 (not (keyFits k key)) rest
+abbrev pub badKey : MicroCm → List ℕ → Cause
+badKey k key = cause 7 (not (keyFits k key))
 
--- 8: a call for the other kind of clock
+-- 7: a row or column out of range
+abbrev pub noCell : MicroCm → ℕ → ℕ → Cause
+noCell k row col = cause 7 (leb (k .rows) row || leb (k .cols) col)
+
+-- 10: rows, cols, t or c differ
+abbrev pub sameShape : MicroCm → MicroCm → Bool
+sameShape k k' =
+    eqb (k .rows) (k' .rows) && eqb (k .cols) (k' .cols) && eqb (k .params .t) (k' .params .t) && eqb (k .params .c) (k' .params .c)
+
+abbrev pub otherShape : MicroCm → MicroCm → Cause
+otherShape k k' = cause 10 (not (sameShape k k'))
+
+-- 11: kind, length or epoch differ
+abbrev pub otherFrame : MicroCm → MicroCm → Cause
+otherFrame k k' = cause 11 (not (sameFrame (k .clock) (k' .clock)))
+
+-- 12: n differs
+abbrev pub otherSubWindow : MicroCm → MicroCm → Cause
+otherSubWindow k k' = cause 12 (not (eqb (nOf (k .clock)) (nOf (k' .clock))))
+
+-- 13: n ≥ t, and the given fraction is NaN or outside 0..=1
+abbrev pub badFraction : MicroCm → Float → Cause
+badFraction k fraction = cause 13 (hasOldest k && not (inUnit fraction))
+
+-- 14: one of these cells is unsound; the index is that of the first
+abbrev pub badCells : MicroCm → List ℕ → List ℕ → Cause
+badCells k g cells = unsound (firstUnsound (λ j. j) 0 k g cells) (firstUnsound (λ j. true) false k g cells)
+
+-- A CAUSE, and what is said where it does not hold
+-- 1 to 4: what a fresh start is given
+abbrev pub refuseSettings : ℕ → ℕ → MicroParams → SubWindowClock → Verdict → Verdict
+refuseSettings rows cols p clock rest = refuseParams p (refuseLength clock (refuseBy (badDimensions rows cols) rest))
+
+abbrev pub refuseGrid : MicroCm → List ℕ → Verdict → Verdict
+refuseGrid k g rest = refuseBy (badGrid k g) rest
+
+-- 1 to 6: a sketch that is handed in with its grid
+abbrev pub refuseSketch : MicroCm → List ℕ → Verdict → Verdict
+refuseSketch k g rest =
+    refuseSettings (k .rows) (k .cols) (k .params) (k .clock) (refuseState (k .rounding .state) (refuseGrid k g rest))
+
+abbrev pub refuseKey : MicroCm → List ℕ → Verdict → Verdict
+refuseKey k key rest = refuseBy (badKey k key) rest
+
 abbrev pub refuseTimed : MicroCm → Verdict → Verdict
-refuseTimed k rest = refuse 8 (not (isCount (k .clock))) rest
+refuseTimed k rest = refuseBy (isTimed (k .clock)) rest
 
 abbrev pub refuseCounted : MicroCm → Verdict → Verdict
-refuseCounted k rest = refuse 8 (isCount (k .clock)) rest
+refuseCounted k rest = refuseBy (isCounted (k .clock)) rest
 
--- 14: the first unsound cell of those that are judged
 abbrev pub refuseUnsound : MicroCm → List ℕ → List ℕ → Verdict → Verdict
 refuseUnsound k g cells rest = firstUnsound Unsound rest k g cells
 
@@ -138,11 +176,9 @@ advanceCall k reading g = sketchCall (advanceVerdict k reading g) (advanced read
 abbrev pub readVerdict : MicroCm → List ℕ → List ℕ → Verdict
 readVerdict k key g = refuseSketch k g (refuseKey k key (refuseUnsound k g (keyCells k 0 key) Accepted))
 
--- 13: n ≥ t, and the given fraction is NaN or outside 0..=1
 abbrev pub readWithVerdict : MicroCm → List ℕ → Float → List ℕ → Verdict
 readWithVerdict k key fraction g =
-    refuseSketch k g
-    (refuseKey k key (refuse 13 (hasOldest k && not (inUnit fraction)) (refuseUnsound k g (keyCells k 0 key) Accepted)))
+    refuseSketch k g (refuseKey k key (refuseBy (badFraction k fraction) (refuseUnsound k g (keyCells k 0 key) Accepted)))
 
 abbrev pub noReading : Reading
 noReading = record { over = figure 0; under = figure 0; linear = figure 0; fraction = figure 0 }
@@ -167,7 +203,7 @@ meanCall k key g = record { verdict = readVerdict k key g; mean = whenAccepted (
 
 -- THE CELL'S OWN BYTES: 7 for a row or column out of range, and then no bytes
 abbrev pub bucketVerdict : MicroCm → ℕ → ℕ → List ℕ → Verdict
-bucketVerdict k row col g = refuseSketch k g (refuse 7 (leb (k .rows) row || leb (k .cols) col) Accepted)
+bucketVerdict k row col g = refuseSketch k g (refuseBy (noCell k row col) Accepted)
 
 unfoldable pub bucketCall : MicroCm → ℕ → ℕ → List ℕ → List ℕ
 bucketCall k row col g = whenAccepted (bucketVerdict k row col g) (cellOf k g (cellIndex k row col)) []
@@ -193,18 +229,13 @@ lowerOf v v' = whenAccepted v v' (whenAccepted v' v (cond (leb (numberOf v) (num
 abbrev pub refuseEither : Verdict → Verdict → Verdict → Verdict
 refuseEither v v' rest = whenAccepted (lowerOf v v') rest (lowerOf v v')
 
--- 10: rows, cols, t and c are the same
-abbrev pub sameShape : MicroCm → MicroCm → Bool
-sameShape k k' =
-    eqb (k .rows) (k' .rows) && eqb (k .cols) (k' .cols) && eqb (k .params .t) (k' .params .t) && eqb (k .params .c) (k' .params .c)
-
 -- 10, then 11 (kind, length or epoch), 12 (n), and 14: the receiving grid is searched first
 abbrev pub mergeVerdict : MicroCm → List ℕ → MicroCm → List ℕ → Verdict
 mergeVerdict k g k' g' =
     refuseEither (sketchVerdict k g) (sketchVerdict k' g')
-    (refuse 10 (not (sameShape k k'))
-    (refuse 11 (not (sameFrame (k .clock) (k' .clock)))
-    (refuse 12 (not (eqb (nOf (k .clock)) (nOf (k' .clock))))
+    (refuseBy (otherShape k k')
+    (refuseBy (otherFrame k k')
+    (refuseBy (otherSubWindow k k')
     (refuseUnsound k g (allCells k) (refuseUnsound k' g' (allCells k') Accepted)))))
 
 -- the other grid is lent to be read only

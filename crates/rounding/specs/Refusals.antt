@@ -3,22 +3,30 @@ use Prim.Native.Nat.{ℕ}
 use lib.Dec.{eqb}
 use Rattle.refusal.specs.declared.Verdict.{Verdict}
 use Rattle.refusal.specs.declared.Verdict.the-variants.{Accepted}
-use Rattle.refusal.specs.Refusals.{refuse, whenAccepted}
+use Rattle.refusal.specs.Refusals.{whenAccepted}
+use Rattle.refusal.specs.Causes.{Cause, cause, refuseBy}
 use Rattle.rounding.specs.declared.Divided.{Divided}
 use Rattle.rounding.specs.declared.DrawAnswer.{DrawAnswer}
 use Rattle.rounding.specs.declared.DivisionAnswer.{DivisionAnswer}
 use Rattle.rounding.specs.Draws.{nextState, yielded, roundedDiv}
 
+-- THE CAUSES, each with its number
 -- 5: the random state is 0
+abbrev pub noState : ℕ → Cause
+noState σ = cause 5 (eqb σ 0)
+
+-- 15: the divisor is 0
+abbrev pub noDivisor : ℕ → Cause
+noDivisor d = cause 15 (eqb d 0)
+
 abbrev pub refuseState : ℕ → Verdict → Verdict
-refuseState σ rest = refuse 5 (eqb σ 0) rest
+refuseState σ rest = refuseBy (noState σ) rest
 
 abbrev pub drawVerdict : ℕ → Verdict
 drawVerdict σ = refuseState σ Accepted
 
--- 15: the divisor is 0
 abbrev pub divisionVerdict : ℕ → ℕ → Verdict
-divisionVerdict d σ = refuseState σ (refuse 15 (eqb d 0) Accepted)
+divisionVerdict d σ = refuseState σ (refuseBy (noDivisor d) Accepted)
 
 -- a refused draw yields 0 and leaves the state
 unfoldable pub drawCall : ℕ → DrawAnswer

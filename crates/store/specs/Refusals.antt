@@ -6,7 +6,8 @@ use lib.Dec.{eqb}
 use lib.ListN.{length, take, drop}
 use Rattle.refusal.specs.declared.Verdict.{Verdict}
 use Rattle.refusal.specs.declared.Verdict.the-variants as verdict
-use Rattle.refusal.specs.Refusals.{refuse, whenAccepted}
+use Rattle.refusal.specs.Refusals.{whenAccepted}
+use Rattle.refusal.specs.Causes.{Cause, cause, refuseBy}
 use Rattle.microscope.specs.declared.MicroCm.{MicroCm}
 use Rattle.microscope.specs.Sketch.{gridBytes, allCells}
 use Rattle.microscope.specs.Refusals.{refuseGrid, refuseSketch, refuseUnsound, noSketch}
@@ -22,8 +23,11 @@ unfoldable pub lengthCall : MicroCm → LengthAnswer
 lengthCall k = record { verdict = lengthVerdict k; length = whenAccepted (lengthVerdict k) (storeLength k) 0 }
 
 -- 16: a store that is not the exact length
+abbrev pub otherLength : MicroCm → List ℕ → Cause
+otherLength k store = cause 16 (not (eqb (length store) (storeLength k)))
+
 abbrev pub refuseLength : MicroCm → List ℕ → Verdict → Verdict
-refuseLength k store rest = refuse 16 (not (eqb (length store) (storeLength k))) rest
+refuseLength k store rest = refuseBy (otherLength k store) rest
 
 -- SAVE: 1 to 6, 14 over the whole grid, 16
 abbrev pub saveVerdict : MicroCm → List ℕ → List ℕ → Verdict
@@ -47,17 +51,28 @@ headerPayload store = payloadOf (take blockBytes store)
 abbrev pub gridIn : MicroCm → List ℕ → List ℕ
 gridIn k store = take (gridBytes k) (carried store)
 
+-- 16: an empty store, or no whole number of blocks
+abbrev pub noBlocks : List ℕ → Cause
+noBlocks store = cause 16 (eqb (length store) 0 || not (eqb (length store % blockBytes) 0))
+
+-- 17: a block's number or its sum
+abbrev pub badBlock : List ℕ → Cause
+badBlock store = cause 17 (not (blocksPass 0 (length store / blockBytes) store))
+
+-- 18: a byte behind the grid that is not 0
+abbrev pub badFill : MicroCm → List ℕ → Cause
+badFill k store = cause 18 (not (allZero (drop (gridBytes k) (carried store))))
+
 -- 16 for the exact length, 18 for the fill, 6 for the grid lent, 14 over the stored cells
 abbrev pub gridVerdict : MicroCm → List ℕ → List ℕ → Verdict
 gridVerdict k g store =
     refuseLength k store
-    (refuse 18 (not (allZero (drop (gridBytes k) (carried store))))
+    (refuseBy (badFill k store)
     (refuseGrid k g (refuseUnsound k (gridIn k store) (allCells k) verdict.Accepted)))
 
 -- 16 for an empty store or no whole number of blocks, 17 over every block
 abbrev pub refuseBlocks : List ℕ → Verdict → Verdict
-refuseBlocks store rest =
-    refuse 16 (eqb (length store) 0 || not (eqb (length store % blockBytes) 0)) (refuse 17 (not (blocksPass 0 (length store / blockBytes) store)) rest)
+refuseBlocks store rest = refuseBy (noBlocks store) (refuseBy (badBlock store) rest)
 
 -- the blocks, then the header's answer, then what it leaves
 abbrev pub loadVerdict : List ℕ → List ℕ → Verdict

@@ -6,7 +6,8 @@ use lib.Dec.{ltb, eqb}
 use lib.ListN.{drop}
 use Rattle.refusal.specs.declared.Verdict.{Verdict}
 use Rattle.refusal.specs.declared.Verdict.the-variants as verdict
-use Rattle.refusal.specs.Refusals.{numberOf, refuse, whenAccepted}
+use Rattle.refusal.specs.Refusals.{numberOf, whenAccepted}
+use Rattle.refusal.specs.Causes.{Cause, cause, refuseBy}
 use Rattle.rounding.specs.Refusals.{refuseState}
 use Rattle.microscope.specs.declared.MicroCm.{MicroCm}
 use Rattle.microscope.specs.Refusals.{refuseSettings}
@@ -24,11 +25,14 @@ unfoldable pub wrongForm : List ℕ → Bool
 wrongForm p =
     not (eqb (fieldOf 4 0 p) 1) || ltb 1 (fieldOf 4 20 p) || not (allZero (drop 56 p)) || (eqb (fieldOf 4 20 p) 0 && not (eqb (fieldOf 8 32 p) 0))
 
+abbrev pub badForm : List ℕ → Cause
+badForm p = cause 18 (wrongForm p)
+
 -- the header's answer: 18, then 1 to 5
 abbrev pub headerVerdict : List ℕ → Verdict
 headerVerdict p =
     let k = sketchIn p in
-    refuse 18 (wrongForm p) (refuseSettings (k .rows) (k .cols) (k .params) (k .clock) (refuseState (k .rounding .state) verdict.Accepted))
+    refuseBy (badForm p) (refuseSettings (k .rows) (k .cols) (k .params) (k .clock) (refuseState (k .rounding .state) verdict.Accepted))
 
 unfoldable pub headerIn : List ℕ → Header
 headerIn p = whenAccepted (headerVerdict p) (Sketch (sketchIn p)) (Refused (numberOf (headerVerdict p)))
