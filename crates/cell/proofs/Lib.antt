@@ -14,3 +14,4 @@ pub mod AtMostLaws
 pub mod SumsLaws
 pub mod CrossingLaws
 pub mod MergeLaws
+pub mod CauseTheorems

@@ -3,5 +3,6 @@ pub mod Insertion
 pub mod Crossing
 pub mod Merge
 pub mod Refusals
+pub mod Causes
 pub mod BenchSheet
 pub mod Workers

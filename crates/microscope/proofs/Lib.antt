@@ -9,6 +9,7 @@ pub mod SketchGates
 pub mod ReadyLaws
 pub mod FreshLaws
 pub mod AuditLaws
+pub mod CauseTheorems
 pub mod ReadingLaws
 pub mod JudgeCases
 pub mod JudgeLoops

@@ -3,5 +3,6 @@ pub mod Figures
 pub mod Merge
 pub mod Audit
 pub mod Refusals
+pub mod Causes
 pub mod BenchSheet
 pub mod Workers

@@ -9,12 +9,12 @@ use lib.ListN.{length}
 use borrow.Author.Tests.{leb-true, eqb-true, eq-eqb}
 use Rattle.refusal.specs.declared.Verdict.{Verdict}
 use Rattle.refusal.specs.declared.Verdict.the-variants.{Accepted, Refused, Unsound}
-use Rattle.refusal.specs.Refusals.{isAccepted, numberOf}
-use Rattle.refusal.specs.Causes.{Cause, cause, unsound, told, holds, firstOf, applies, numbersOf, table, placeIn, rankOf, rankedFrom, inTableOrder, Told, Lowest}
-use Rattle.refusal.proofs.VerdictLaws.{accepted-is}
+use Rattle.refusal.specs.Refusals.{isAccepted, numberOf, whenAccepted}
+use Rattle.refusal.specs.Causes.{Cause, cause, unsound, told, holds, firstOf, applies, numbersOf, table, placeIn, rankOf, rankedFrom, inTableOrder, Told, Lowest, FirstHolding}
+use Rattle.refusal.proofs.VerdictLaws.{accepted-is, refused-leaves}
 
 -- a cause turns a call back
-told-refuses : (x : Cause) → isAccepted (told x) ≡ false
+pub told-refuses : (x : Cause) → isAccepted (told x) ≡ false
 told-refuses (cause k h) = refl
 told-refuses (unsound j h) = refl
 
@@ -48,6 +48,17 @@ module _ (x : Cause) (xs : List Cause) where
       by : (a : Bool) → eqb (numberOf (told x)) k ≡ a → (h : Bool) → (a && h) || applies k xs ≡ true → P
       by true q h e = here (eqb-true _ _ q)
       by false q h e = later e
+
+-- CAUSES, and then others
+pub first-append : (xs ys : List Cause) → firstOf (xs ++ ys) ≡ whenAccepted (firstOf xs) (firstOf ys) (firstOf xs)
+unfolding firstOf
+first-append [] ys = refl
+first-append (x ∷ xs) ys = by (holds x) (told x) (told-refuses x) (first-append xs ys)
+  where
+    by : (h : Bool) (v : Verdict) → isAccepted v ≡ false → firstOf (xs ++ ys) ≡ whenAccepted (firstOf xs) (firstOf ys) (firstOf xs)
+        → cond h v (firstOf (xs ++ ys)) ≡ whenAccepted (cond h v (firstOf xs)) (firstOf ys) (cond h v (firstOf xs))
+    by true v n e = sym (refused-leaves v (firstOf ys) v n)
+    by false v n e = e
 
 -- THE NUMBER GIVEN applies
 pub told-applies : (xs : List Cause) → isAccepted (firstOf xs) ≡ false → applies (numberOf (firstOf xs)) xs ≡ true
@@ -133,3 +144,23 @@ lowest-told v xs t =
       none-applies = none-applies xs;
       accepts = accepts xs;
     })
+
+-- THE FIRST THAT HOLDS, in any order
+pub first-holding : (xs : List Cause) → isAccepted (firstOf xs) ≡ false → FirstHolding (firstOf xs) xs
+unfolding firstOf
+first-holding [] e = absurd (true≢false e)
+first-holding (x ∷ xs) e = by (holds x) refl (first-holding xs)
+  where
+    by : (h : Bool) → holds x ≡ h → (isAccepted (firstOf xs) ≡ false → FirstHolding (firstOf xs) xs) → FirstHolding (firstOf (x ∷ xs)) (x ∷ xs)
+    by true q later = record { before = []; this = x; behind = xs; split = refl; none-before = refl; this-holds = q; this-told = first-holds x xs q }
+    by false q later =
+        let it = later (rw (first-fails x xs q) at e) in
+        record {
+          before = x ∷ it .before;
+          this = it .this;
+          behind = it .behind;
+          split = ap (λ ys. x ∷ ys) (it .split);
+          none-before = first-fails x (it .before) q ∙ it .none-before;
+          this-holds = it .this-holds;
+          this-told = first-fails x xs q ∙ it .this-told;
+        }

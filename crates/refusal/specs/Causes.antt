@@ -2,7 +2,7 @@
 use Prim.Native.Nat.{ℕ, suc, _≤_}
 use mathlib.Core.Path.{_≡_}
 use mathlib.Core.Bool.{Bool, true, false, cond, _&&_, _||_}
-use mathlib.Core.List.{List, [], _∷_}
+use mathlib.Core.List.{List, [], _∷_, _++_}
 use lib.Dec.{leb, ltb, eqb}
 use lib.ListN.{length}
 use Rattle.refusal.specs.declared.Verdict.{Verdict}
@@ -30,6 +30,12 @@ refuseBy x rest = cond (holds x) (told x) rest
 unfoldable pub firstOf : List Cause → Verdict
 firstOf [] = Accepted
 firstOf (x ∷ xs) = refuseBy x (firstOf xs)
+
+-- the causes of two that are handed in, each beside its like
+unfoldable pub paired : List Cause → List Cause → List Cause
+paired [] ys = ys
+paired (x ∷ xs) [] = x ∷ xs
+paired (x ∷ xs) (y ∷ ys) = x ∷ y ∷ paired xs ys
 
 -- the number k applies to the call: a cause of that number holds
 unfoldable pub applies : ℕ → List Cause → Bool
@@ -73,10 +79,25 @@ pub record Told (v : Verdict) (causes : List Cause) : Type 0 where
   pub is : v ≡ firstOf causes
   pub ordered : inTableOrder causes ≡ true
 
--- and so, in document 01's words: the number given applies, it is the lowest that does, and a call is accepted exactly if none does
+-- and of a load, whose causes stand in its own order
+pub record ToldInLoadOrder (v : Verdict) (causes : List Cause) : Type 0 where
+  pub is : v ≡ firstOf causes
+  pub ordered : numbersOf causes ≡ loadOrder
+
+-- So, in document 01's words: the number given applies, it is the lowest that does, and a call is accepted exactly if none does
 pub record Lowest (v : Verdict) (causes : List Cause) : Type 0 where
   pub told-applies : isAccepted v ≡ false → applies (numberOf v) causes ≡ true
   pub refuses : (k : ℕ) → applies k causes ≡ true → isAccepted v ≡ false
   pub lowest : (k : ℕ) → applies k causes ≡ true → rankOf (numberOf v) ≤ rankOf k
   pub none-applies : v ≡ Accepted → (k : ℕ) → applies k causes ≡ false
   pub accepts : ((k : ℕ) → applies k causes ≡ false) → v ≡ Accepted
+
+-- IN ANY ORDER, a load's too: the cause that is told holds, and none before it
+pub record FirstHolding (v : Verdict) (xs : List Cause) : Type 0 where
+  pub before : List Cause
+  pub this : Cause
+  pub behind : List Cause
+  pub split : xs ≡ before ++ this ∷ behind
+  pub none-before : firstOf before ≡ Accepted
+  pub this-holds : holds this ≡ true
+  pub this-told : v ≡ told this

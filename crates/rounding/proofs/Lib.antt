@@ -3,3 +3,4 @@ pub mod StateLaws
 pub mod DivisionLaws
 pub mod CallLaws
 pub mod Vectors
+pub mod CauseTheorems

@@ -6,3 +6,4 @@ pub mod Theorems
 pub mod JudgeWork
 pub mod SaveWork
 pub mod LoadWork
+pub mod CauseTheorems

@@ -1,3 +1,4 @@
 pub mod HeaderLaws
 pub mod FieldWork
 pub mod AnswerLaws
+pub mod CauseTheorems

@@ -1,3 +1,4 @@
 pub mod Header
 pub mod Refusals
+pub mod Causes
 pub mod Workers

@@ -1,0 +1,12 @@
+-- Each call's verdict is that of its list of causes: the cascade is the list, unfolded. Assumes nothing.
+use mathlib.Core.Path.{refl}
+use Rattle.refusal.specs.Causes.{firstOf, numbersOf, placeIn, rankedFrom}
+use Rattle.clock.specs.Causes.{ClockCalls}
+
+pub clock-calls : ClockCalls
+unfolding firstOf numbersOf placeIn rankedFrom
+clock-calls = record {
+  made = λ k. record { is = refl; ordered = refl };
+  tick = λ k. record { is = refl; ordered = refl };
+  advance = λ k. record { is = refl; ordered = refl };
+}
