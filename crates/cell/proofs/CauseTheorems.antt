@@ -10,6 +10,7 @@ use Rattle.cell.specs.declared.MicroParams.{MicroParams}
 use Rattle.cell.specs.Cell.{soundOf}
 use Rattle.cell.specs.Refusals.{badCell, refuseUnsound}
 use Rattle.cell.specs.Causes.{CellCalls}
+use Rattle.cell.specs.Limits.{Limits}
 
 -- 14: what is not sound is unsound
 one-cell : (p : MicroParams) (b : List ℕ) (rest : Verdict) → refuseUnsound p b rest ≡ refuseBy (badCell p b) rest
@@ -29,3 +30,6 @@ cell-calls = record {
   cross = λ p n crossed b σ. record { is = rw (one-cell p b Accepted) refl; ordered = refl };
   merge = λ p b src σ. record { is = rw (one-cell p b (refuseUnsound p src Accepted), one-cell p src Accepted) refl; ordered = refl };
 }
+
+pub limits : Limits
+limits = record { least = refl; most = refl; t-low = refl; t-high = refl; c-low = refl; c-high = refl; both = refl }

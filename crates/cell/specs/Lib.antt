@@ -4,5 +4,6 @@ pub mod Crossing
 pub mod Merge
 pub mod Refusals
 pub mod Causes
+pub mod Limits
 pub mod BenchSheet
 pub mod Workers

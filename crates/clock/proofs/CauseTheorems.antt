@@ -2,6 +2,7 @@
 use mathlib.Core.Path.{refl}
 use Rattle.refusal.specs.Causes.{firstOf, numbersOf, placeIn, rankedFrom}
 use Rattle.clock.specs.Causes.{ClockCalls}
+use Rattle.clock.specs.Limits.{Limits}
 
 pub clock-calls : ClockCalls
 unfolding firstOf numbersOf placeIn rankedFrom
@@ -10,3 +11,6 @@ clock-calls = record {
   tick = λ k. record { is = refl; ordered = refl };
   advance = λ k. record { is = refl; ordered = refl };
 }
+
+pub limits : Limits
+limits = record { least = (refl, refl); most = (refl, refl); none = (refl, refl); too-long = (refl, refl) }

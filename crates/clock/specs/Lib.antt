@@ -1,3 +1,4 @@
 pub mod Clock
 pub mod Refusals
 pub mod Causes
+pub mod Limits

@@ -1,4 +1,4 @@
--- Item 10 of the bench sheet and the item of two rows, computed from the definitions by the checker. Assumes nothing.
+-- Item 10 of the bench sheet and the items beside it, computed from the definitions by the checker. Assumes nothing.
 use mathlib.Core.Path.{refl}
 use lib.Ieee.{ofInt, add, sub, mul, div}
 use Rattle.laws.specs.Powers.{highest}
@@ -19,4 +19,5 @@ unfolding recorded insertEach insertAt keyCells moved crossEach eachOf nOf fract
 sketch-items = record {
   item-10 = λ seed. (refl, refl, refl, refl);
   two-rows = λ seed. refl;
+  halves = λ seed. (refl, refl);
 }

@@ -10,6 +10,7 @@ pub mod ReadyLaws
 pub mod FreshLaws
 pub mod AuditLaws
 pub mod CauseTheorems
+pub mod AcceptanceLaws
 pub mod ReadingLaws
 pub mod JudgeCases
 pub mod JudgeLoops

@@ -1,5 +1,5 @@
 -- Document 01, "Bench sheet": item 10 (one row, length 2 counted, three items in one column), and beside it an item of two
--- rows, by which summing before the minimum would show.
+-- rows, by which summing before the minimum would show, and one of two sub-windows, by which the mean's division would.
 use Prim.Native.Nat.{ℕ}
 use mathlib.Core.Path.{_≡_}
 use mathlib.Core.List.{List, [], _∷_}
@@ -37,6 +37,10 @@ threeItems seed = updated (0 ∷ []) (updated (0 ∷ []) (updated (0 ∷ []) (fr
 abbrev pub twoStrangers : ℕ → World
 twoStrangers seed = updated (1 ∷ 0 ∷ []) (updated (0 ∷ 1 ∷ []) (freshCounted 2 2 1 seed))
 
+-- one row and t = 2, three items a sub-window: three in the first, two in the second
+abbrev pub fiveItems : ℕ → World
+fiveItems seed = updated (0 ∷ []) (updated (0 ∷ []) (updated (0 ∷ []) (updated (0 ∷ []) (updated (0 ∷ []) (freshCounted 1 2 3 seed)))))
+
 pub record SketchItems : Type 0 where
   pub item-10 : (seed : ℕ)
       → (over (0 ∷ []) (threeItems seed) ≡ 3)
@@ -45,3 +49,5 @@ pub record SketchItems : Type 0 where
       × (mean (0 ∷ []) (threeItems seed) ≡ 1)
   -- each row holds one item, but never both in the same sub-window
   pub two-rows : (seed : ℕ) → over (0 ∷ 0 ∷ []) (twoStrangers seed) ≡ 0
+  -- five items in two sub-windows: two and a half for each, rounded down
+  pub halves : (seed : ℕ) → (under (0 ∷ []) (fiveItems seed) ≡ 5) × (mean (0 ∷ []) (fiveItems seed) ≡ 2)

@@ -4,5 +4,6 @@ pub mod Merge
 pub mod Audit
 pub mod Refusals
 pub mod Causes
+pub mod Acceptance
 pub mod BenchSheet
 pub mod Workers

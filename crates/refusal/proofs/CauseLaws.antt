@@ -22,6 +22,11 @@ and-false : (a : Bool) → a && false ≡ false
 and-false true = refl
 and-false false = refl
 
+-- THE TABLE goes by the numbers: document 01 gives the lowest
+pub by-number : rankedFrom 0 (1 ∷ 2 ∷ 3 ∷ 4 ∷ 5 ∷ 6 ∷ 7 ∷ 8 ∷ 9 ∷ 10 ∷ 11 ∷ 12 ∷ 13 ∷ 14 ∷ 15 ∷ 16 ∷ 17 ∷ 18 ∷ []) ≡ true
+unfolding rankedFrom placeIn
+by-number = refl
+
 -- ONE CAUSE, and those behind it
 module _ (x : Cause) (xs : List Cause) where
   pub first-holds : holds x ≡ true → firstOf (x ∷ xs) ≡ told x

@@ -27,10 +27,13 @@ load-is g store = ap (λ (v : Verdict). refuseBlocks store v) (ap by (header-cal
   where
     p : List ℕ
     p = headerPayload store
+
     k : MicroCm
     k = sketchIn p
+
     by : Verdict → Verdict
     by v = whenAccepted v (gridVerdict k g store) v
+
     goes-on : Verdict → Verdict
     goes-on v = whenAccepted (firstOf (headerCauses p)) v (firstOf (headerCauses p))
 
