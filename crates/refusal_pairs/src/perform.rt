@@ -1,0 +1,130 @@
+// The calls on a sketch, by the numbers that docs/PAIRS.md gives them.
+use crate::case::Case;
+use crate::number;
+use microscope::AuditAnswer;
+use microscope::Finding;
+use microscope::HighestAnswer;
+use microscope::MeanAnswer;
+use microscope::MicroCm;
+use microscope::ReadingAnswer;
+use microscope::SketchAnswer;
+use refusal::Verdict;
+use store::LengthAnswer;
+use store::LoadAnswer;
+
+// What comes of a call that the format does not have: no call is refused by this number.
+const NO_SUCH_CALL: u8 = 255;
+
+pub struct Outcome {
+    pub number: u64,
+    pub index: u64,
+    pub sketch: MicroCm,
+}
+
+pub fn perform(
+    case: Case,
+    key: &[u32],
+    grid: &mut [u8],
+    other_grid: &[u8],
+    store: &mut [u8],
+) -> Outcome {
+    let call = case.call;
+    let sketch = case.sketch;
+    match call {
+        0 => changed(start(case, grid)),
+        1 => changed(counting::update(sketch, key, grid)),
+        2 => changed(counting::update_at(sketch, key, case.argument, grid)),
+        3 => changed(counting::advance_to(sketch, case.argument, grid)),
+        10 => changed(sketch_merging::merge(sketch, grid, case.other, other_grid)),
+        12 => told(store::save(store, sketch, &grid[..]), sketch),
+        13 => loaded(store::load(grid, &store[..])),
+        _ => looked(case, key, &grid[..]),
+    }
+}
+
+// The calls that change nothing.
+fn looked(case: Case, key: &[u32], grid: &[u8]) -> Outcome {
+    let call = case.call;
+    let sketch = case.sketch;
+    match call {
+        4 => read(reading::estimate(sketch, key, grid), sketch),
+        5 => read(
+            reading::estimate_with(sketch, key, number::float(case.argument), grid),
+            sketch,
+        ),
+        6 => averaged(reading::mean(sketch, key, grid), sketch),
+        7 => told(
+            auditing::bucket_check(sketch, case.argument as usize, case.column, grid),
+            sketch,
+        ),
+        8 => highest(auditing::max_zoom(sketch, grid), sketch),
+        9 => audited(auditing::audit(sketch, grid), sketch),
+        11 => measured(store::store_length(sketch), sketch),
+        _ => told(Verdict::Refused(NO_SUCH_CALL), sketch),
+    }
+}
+
+fn told(verdict: Verdict, sketch: MicroCm) -> Outcome {
+    Outcome {
+        number: verdict.number() as u64,
+        index: verdict.index() as u64,
+        sketch,
+    }
+}
+
+fn start(case: Case, grid: &mut [u8]) -> SketchAnswer {
+    let sketch = case.sketch;
+    let params = sketch.params;
+    let clock = sketch.clock;
+    MicroCm::with_dimensions(sketch.rows, sketch.cols, params, clock, case.argument, grid)
+}
+
+fn changed(answer: SketchAnswer) -> Outcome {
+    let verdict = answer.verdict;
+    let sketch = answer.sketch;
+    told(verdict, sketch)
+}
+
+fn loaded(answer: LoadAnswer) -> Outcome {
+    let verdict = answer.verdict;
+    let sketch = answer.sketch;
+    told(verdict, sketch)
+}
+
+fn read(answer: ReadingAnswer, sketch: MicroCm) -> Outcome {
+    let verdict = answer.verdict;
+    told(verdict, sketch)
+}
+
+fn averaged(answer: MeanAnswer, sketch: MicroCm) -> Outcome {
+    let verdict = answer.verdict;
+    told(verdict, sketch)
+}
+
+fn highest(answer: HighestAnswer, sketch: MicroCm) -> Outcome {
+    let verdict = answer.verdict;
+    told(verdict, sketch)
+}
+
+fn measured(answer: LengthAnswer, sketch: MicroCm) -> Outcome {
+    let verdict = answer.verdict;
+    told(verdict, sketch)
+}
+
+// An audit's index is what it found: 1 more than the cell's, so that 0 says that every cell is sound.
+fn audited(answer: AuditAnswer, sketch: MicroCm) -> Outcome {
+    let verdict = answer.verdict;
+    let audit = answer.audit;
+    Outcome {
+        number: verdict.number() as u64,
+        index: found(audit),
+        sketch,
+    }
+}
+
+fn found(finding: Finding) -> u64 {
+    match finding {
+        Finding::Sound => 0,
+        Finding::Unsound(index) => std::num::wrapping_add_u64(index as u64, 1),
+    }
+}
