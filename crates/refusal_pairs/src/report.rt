@@ -55,24 +55,23 @@ fn line(call: usize, cases: u64, wrong: u64) {
     text(b" wrong\n");
 }
 
-// `update, case 212, of 3 and 7: expected 3, came 7, all as it was`
+// `update, case 252: expected 3 beside 7, came 7`
 pub fn wrong_case(case: Case, came: Outcome, kept: bool, read: u64) {
     name(case.call);
     text(b", case ");
     decimal(read);
-    text(b", of ");
-    decimal(case.number);
-    text(b" and ");
-    decimal(case.second);
     text(b": expected ");
     verdict(case.call, case.number, case.index);
+    if case.second > 0 {
+        text(b" beside ");
+        decimal(case.second);
+    }
     text(b", came ");
     verdict(case.call, came.number, came.index);
-    if kept {
-        text(b", all as it was\n");
-    } else {
-        text(b", and something was changed\n");
+    if !kept {
+        text(b", and something was changed");
     }
+    text(b"\n");
 }
 
 // The index where it says something: with 14, and what an audit found.
