@@ -141,7 +141,7 @@ struct cause {
     spoil *spoil;
 };
 
-// A list ends with number 0. "Rank" is the place in it: causes of one number that stand together are ways to the same thing.
+// THE ORDER: each list has document 01's. Causes of one number that stand together are several ways to it; 0 ends a list.
 #define SETTINGS \
     {1, t_0}, {1, t_more}, {2, c_1}, {2, c_more}, {3, length_0}, {3, length_more}, {4, rows_0}, {4, rows_most}, \
     {4, cols_1}, {4, cols_3}, {4, cols_more}
@@ -529,7 +529,7 @@ static struct trial spoiled(struct trial c, const struct cause *cause, enum side
     return c;
 }
 
-// What is the same out of range on both sides no longer differs.
+// Out of range by the same value on both sides, a setting no longer differs.
 static bool evened_out(const struct cause *in_both, const struct cause *differs)
 {
     spoil *x = in_both->spoil, *d = differs->spoil;
