@@ -72,21 +72,22 @@ static uint64_t sub_window(const microscope_sketch *sketch) {
 }
 
 /*
- * Raises the M of every code to the highest zoom that its cells hold, or may hold inside a crossing that comes now:
- * closing an open shutter into a full pixel zooms out before the cell may zoom in again.
+ * Raises the M of every code to the highest zoom that its cells hold, or may hold inside the next call: one more where
+ * the pixel of the present sub-window is full. An item, or a shutter closed at a crossing, zooms such a cell out, and
+ * the crossing in the same call may zoom it in again, so that the zoom after that call does not tell.
  */
 static void raise_peaks(const struct counter *counter, uint64_t peaks[CODE_COUNT]) {
     size_t pixel = sub_window(&counter->sketch) % (T + 2);
+    microscope_number top = microscope_base_max_zoom(C);
+    accepted(top.number, "base_max_zoom");
     for (int code = 0; code < CODE_COUNT; code++) {
         uint32_t key[ROWS];
         columns_of(CODES[code], key);
         for (size_t row = 0; row < ROWS; row++) {
             const uint8_t *cell = cell_at(counter, row, key[row]);
             microscope_number zoom = microscope_cell_zoom(cell, DEPTH, T, C);
-            microscope_number shutter = microscope_cell_shutter(cell, DEPTH, T, C);
             accepted(zoom.number, "cell_zoom");
-            accepted(shutter.number, "cell_shutter");
-            uint64_t held = zoom.value + (shutter.value > 0 && cell[pixel] == 255);
+            uint64_t held = zoom.value + (cell[pixel] == 255 && zoom.value < top.value);
             peaks[code] = held > peaks[code] ? held : peaks[code];
         }
     }

@@ -46,16 +46,17 @@ fn columns_of(code: &str) -> [u32; ROWS] {
     })
 }
 
-/// Raises the M of every code to the highest zoom that its cells hold, or may hold inside a crossing that comes now:
-/// closing an open shutter into a full pixel zooms out before the cell may zoom in again.
+/// Raises the M of every code to the highest zoom that its cells hold, or may hold inside the next call: one more where
+/// the pixel of the present sub-window is full. An item, or a shutter closed at a crossing, zooms such a cell out, and
+/// the crossing in the same call may zoom it in again, so that the zoom after that call does not tell.
 fn raise_peaks(counter: &MicroCm, peaks: &mut Peaks) -> Result<(), Box<dyn Error>> {
     let pixel = counter.sub_window() as usize % (T + 2);
+    let top = calls::base_max_zoom(C).value;
     for (code, peak) in CODES.iter().zip(peaks) {
         for (row, col) in columns_of(code).into_iter().enumerate() {
             let cell = counter.bucket_slice(row, col as usize)?;
             let zoom = calls::cell_zoom(cell, T, C).value;
-            let shutter = calls::cell_shutter(cell, T, C).value;
-            *peak = (*peak).max(zoom + (shutter > 0 && cell[pixel] == 255) as u64);
+            *peak = (*peak).max(zoom + (cell[pixel] == 255 && zoom < top) as u64);
         }
     }
     Ok(())
