@@ -10,6 +10,7 @@
 // The published files say `use smallvec::SmallVec`; this crate answers to that name.
 extern crate self as smallvec;
 
+mod band;
 mod cells;
 mod damage;
 mod directed;
@@ -95,17 +96,18 @@ fn asked() -> Result<Run, String> {
 
 /// One story of some hundred or thousand calls.
 fn story(dice: &mut Dice) -> Outcome {
-    match dice.below(20) {
+    match dice.below(24) {
         0..12 => stories::story(dice),
         12..15 => cells::story(dice),
         15..18 => plain_calls::story(dice),
-        _ => damage::story(dice),
+        18..20 => damage::story(dice),
+        _ => band::story(dice),
     }
 }
 
 fn compare(run: &Run) -> Score {
     let mut score = Score::default();
-    for (name, story) in directed::ALL.into_iter().chain(refusals::ALL) {
+    for (name, story) in directed::ALL.into_iter().chain(refusals::ALL).chain(band::ALL) {
         score.count(name, story());
     }
     let mut dice = Dice::new(run.seed, 0);
