@@ -4,8 +4,8 @@ use crate::choose::Dice;
 use crate::judge::{self, Settings};
 use crate::pair::make;
 use crate::score::{Outcome, called, number, same, same_number};
+use crate::tally::Tally;
 use microscope::{MicroCm, MicroParams, calls};
-use std::collections::HashMap;
 
 pub const ALL: [(&str, fn() -> Outcome); 2] = [
     ("an item's zoom that no call shows", unseen_by_item),
@@ -20,62 +20,6 @@ const BASES: [u16; 8] = [2, 3, 4, 5, 7, 16, 255, 256];
 
 /// Items of one key at a stretch: they fill a pixel whose unit is 3.
 const MOST_ITEMS: u64 = 800;
-
-/// Document 01's tally, under "Band": fed the settings and each call's arguments, nothing from cells or figures.
-struct Tally {
-    settings: Settings,
-    reading: u64,
-    /// By row, column and sub-window.
-    counts: HashMap<(usize, u32, u64), u64>,
-}
-
-impl Tally {
-    fn fresh(settings: Settings) -> Self {
-        Self {
-            settings,
-            reading: if settings.timed { settings.epoch } else { 0 },
-            counts: HashMap::new(),
-        }
-    }
-
-    fn n(&self) -> u64 {
-        let start = if self.settings.timed { self.settings.epoch } else { 0 };
-        self.reading.saturating_sub(start) / self.settings.length
-    }
-
-    fn record(&mut self, key: &[u32]) {
-        let n = self.n();
-        for (row, &column) in key.iter().enumerate() {
-            *self.counts.entry((row, column, n)).or_default() += 1;
-        }
-    }
-
-    fn update(&mut self, key: &[u32]) {
-        self.record(key);
-        self.reading = self.reading.saturating_add(1);
-    }
-
-    fn advance_to(&mut self, time: u64) {
-        self.reading = self.reading.max(time);
-    }
-
-    fn update_at(&mut self, key: &[u32], time: u64) {
-        self.advance_to(time);
-        self.record(key);
-    }
-
-    /// The smallest across rows of the key's numbers.
-    fn least(&self, key: &[u32], n: u64) -> u64 {
-        let number = |(row, &column)| self.counts.get(&(row, column, n)).copied().unwrap_or(0);
-        key.iter().enumerate().map(number).min().expect("a row")
-    }
-
-    fn exact(&self, key: &[u32]) -> u64 {
-        let n = self.n();
-        let first = n.saturating_sub(self.settings.t as u64);
-        (first..=n).map(|n| self.least(key, n)).sum()
-    }
-}
 
 /// The zoom that this cell holds, or may hold inside the next call: one more where the pixel of the present sub-window
 /// is full. No other pixel is full when it is credited, and this one zooms out once at most: by the item, or by the

@@ -2,7 +2,7 @@
 
 use crate::choose::Dice;
 use crate::judge;
-use crate::numbers;
+use crate::numbers::{self, Causes};
 use crate::score::{Outcome, called, same, same_bytes, same_number};
 use microscope::calls::{self, Drawn};
 
@@ -49,7 +49,14 @@ fn spoil(dice: &mut Dice, told: &mut Told) {
 }
 
 /// A cell after a call: as the Rust left it, or if refused as it was.
-fn left(answer: Drawn, right: u64, bytes: &[u8], told: &Told, call: impl FnOnce(u16, u16) -> judge::After) -> Outcome {
+fn left(
+    answer: Drawn,
+    causes: Causes,
+    bytes: &[u8],
+    told: &Told,
+    call: impl FnOnce(u16, u16) -> judge::After,
+) -> Outcome {
+    let right = numbers::first(&causes);
     same_number("number", answer.number, right)?;
     same("index", answer.index, 0)?;
     let (cell, state, draws) = if right == 0 {
@@ -66,8 +73,8 @@ fn left(answer: Drawn, right: u64, bytes: &[u8], told: &Told, call: impl FnOnce(
 fn insert(told: &Told, n: u64) -> Outcome {
     let mut bytes = told.cell.clone();
     let answer = called(calls::cell_insert(&mut bytes, told.t, told.c, n, told.state));
-    let right = numbers::change(told.t, told.c, told.state, None, &[&told.cell]);
-    left(answer, right, &bytes, told, |t, c| {
+    let causes = numbers::change(told.t, told.c, told.state, None, &[&told.cell]);
+    left(answer, causes, &bytes, told, |t, c| {
         judge::insert(t, c, n, told.state, &told.cell)
     })
 }
@@ -82,8 +89,8 @@ fn enter(dice: &mut Dice, told: &Told, n: u64) -> Outcome {
     let answer = called(calls::cell_enter_sub_window(
         &mut bytes, told.t, told.c, n, crossed, told.state,
     ));
-    let right = numbers::change(told.t, told.c, told.state, Some((n, crossed)), &[&told.cell]);
-    left(answer, right, &bytes, told, |t, c| {
+    let causes = numbers::change(told.t, told.c, told.state, Some((n, crossed)), &[&told.cell]);
+    left(answer, causes, &bytes, told, |t, c| {
         judge::enter(t, c, n, crossed, told.state, &told.cell)
     })
 }
@@ -95,16 +102,16 @@ fn merge(dice: &mut Dice, told: &Told, n: u64, mut src: Vec<u8>) -> Outcome {
     let kept = src.clone();
     let mut bytes = told.cell.clone();
     let answer = called(calls::cell_merge(&mut bytes, &src, told.t, told.c, n, told.state));
-    let right = numbers::change(told.t, told.c, told.state, None, &[&told.cell, &src]);
+    let causes = numbers::change(told.t, told.c, told.state, None, &[&told.cell, &src]);
     same_bytes("the cell merged from", &src, &kept)?;
-    left(answer, right, &bytes, told, |t, c| {
+    left(answer, causes, &bytes, told, |t, c| {
         judge::merge(t, c, n, told.state, &told.cell, &src)
     })
 }
 
 fn fields(told: &Told, n: u64) -> Outcome {
     let (t, c, cell) = (told.t, told.c, &told.cell);
-    let right = numbers::one_cell(t, c, cell);
+    let right = numbers::first(&numbers::one_cell(t, c, cell));
     let zoom = called(calls::cell_zoom(cell, t, c));
     let shutter = called(calls::cell_shutter(cell, t, c));
     let pixel = called(calls::cell_scaled_pixel(cell, t, c, n));
@@ -122,7 +129,7 @@ fn fields(told: &Told, n: u64) -> Outcome {
 
 fn settings(told: &Told) -> Outcome {
     let depth = called(calls::depth(told.t, told.c));
-    let right = numbers::params(told.t, told.c);
+    let right = numbers::first(&numbers::params(told.t, told.c));
     same_number("the depth's number", depth.number, right)?;
     let bytes = if right == 0 { judge::depth(told.t as u16) } else { 0 };
     same("depth", depth.value, bytes as u64)?;

@@ -1,7 +1,10 @@
 //! Stores that were cut, mixed, changed or made by another: refused by their number, and nothing written.
 
 use crate::choose::Dice;
+use crate::hits;
 use crate::load_order;
+use crate::numbers;
+use crate::plain_calls::Told;
 use crate::score::{Outcome, called, number, same, same_bytes, same_number};
 use crate::stores::{self, BLOCK};
 use crate::stories;
@@ -52,20 +55,30 @@ fn harm(dice: &mut Dice, store: &mut Vec<u8>) {
     }
 }
 
-/// A store with this number is refused by the wrapper and by the call, and no byte of a lent grid is written.
-pub fn refused(store: &[u8], grid: usize, right: u64) -> Outcome {
-    let answer = called(MicroCm::load(store));
-    same_number("the load's number", number(&answer), load_order::load(store, None))?;
+/// A load into a grid of this length, by the number that a load's own order gives. If it is refused, no byte of the
+/// grid is written.
+pub fn load(store: &[u8], grid: usize) -> Told {
     let mut lent = vec![0xA5; grid];
-    let plain = called(calls::load(&mut lent, store));
-    same_number("the load's number", plain.number, right)?;
+    let answer = called(calls::load(&mut lent, store));
+    let right = hits::number("load", &load_order::load(store, Some(grid)));
+    same_number("the load's number", answer.number, right)?;
     if right == 0 {
-        let ours = answer.map_err(|why| why.to_string())?;
-        same("the sketch loaded", plain.sketch, ours.plain())?;
-        return same_bytes("the grid loaded", &lent, ours.grid());
+        let ours = called(MicroCm::load(store)).map_err(|why| why.to_string())?;
+        same("the sketch loaded", answer.sketch, ours.plain())?;
+        same_bytes("the grid loaded", &lent, ours.grid())?;
+    } else {
+        same("the sketch refused", answer.sketch, calls::Sketch::default())?;
+        same_bytes("the grid lent", &lent, &vec![0xA5; grid])?;
     }
-    same("the sketch refused", plain.sketch, calls::Sketch::default())?;
-    same_bytes("the grid lent", &lent, &vec![0xA5; grid])
+    Ok((answer.number, answer.index))
+}
+
+/// A store is refused by this number and, but for the grid's length, by the wrapper too.
+pub fn refused(store: &[u8], grid: usize, right: u64) -> Outcome {
+    let (told, _) = load(store, grid)?;
+    same("the load's number", told, right)?;
+    let right = numbers::first(&load_order::load(store, None));
+    same_number("the wrapper's number", number(&called(MicroCm::load(store))), right)
 }
 
 /// A store of this sketch, harmed.
@@ -78,7 +91,7 @@ pub fn of_sketch(dice: &mut Dice, ours: &MicroCm) -> Outcome {
     } else {
         ours.grid().len()
     };
-    refused(&store, grid, load_order::load(&store, Some(grid)))
+    refused(&store, grid, numbers::first(&load_order::load(&store, Some(grid))))
 }
 
 /// A single changed byte anywhere is refused, by 17.

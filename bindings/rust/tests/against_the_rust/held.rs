@@ -118,6 +118,6 @@ pub fn names(number: u64, index: usize, held: &[&Held]) -> Outcome {
     }
     let named = held
         .iter()
-        .any(|held| index < held.sketch.rows * held.sketch.cols && !numbers::cell(&held.sketch, &held.grid, index));
+        .any(|held| numbers::unsound_at(&held.sketch, &held.grid, index));
     same("an unsound cell is named", named, true)
 }

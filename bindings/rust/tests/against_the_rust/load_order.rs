@@ -1,13 +1,13 @@
 //! A load's own order of numbers.
 
-use crate::numbers::{all_sound, grid_bytes, refuse, sketch, store_length};
+use crate::numbers::{self, Causes, any_unsound, grid_bytes, store_length, then};
 use crate::stores::{BLOCK, sum_of};
 use microscope::calls::Sketch;
 
 /// The sketch that block 0 tells of.
-fn told(store: &[u8]) -> Sketch {
-    let u32_at = |at: usize| u32::from_le_bytes(store[4 + at..][..4].try_into().expect("four bytes"));
-    let u64_at = |at: usize| u64::from_le_bytes(store[4 + at..][..8].try_into().expect("eight bytes"));
+fn told(header: &[u8]) -> Sketch {
+    let u32_at = |at: usize| u32::from_le_bytes(header[4 + at..][..4].try_into().expect("four bytes"));
+    let u64_at = |at: usize| u64::from_le_bytes(header[4 + at..][..8].try_into().expect("eight bytes"));
     Sketch {
         rows: u32_at(4) as usize,
         cols: u32_at(8) as usize,
@@ -21,52 +21,56 @@ fn told(store: &[u8]) -> Sketch {
     }
 }
 
-fn blocks_pass(store: &[u8]) -> bool {
-    store
-        .chunks(BLOCK)
-        .zip(0u32..)
-        .all(|(block, number)| block[..4] == number.to_le_bytes() && block[508..] == sum_of(block).to_le_bytes())
+/// The blocks that are there whole.
+fn blocks(store: &[u8]) -> impl Iterator<Item = &[u8]> {
+    store.chunks_exact(BLOCK)
 }
 
-fn is_form(store: &[u8]) -> bool {
-    let s = told(store);
-    store[4..8] == 1u32.to_le_bytes()
+fn passes(block: &[u8], number: u32) -> bool {
+    block[..4] == number.to_le_bytes() && block[508..] == sum_of(block).to_le_bytes()
+}
+
+fn is_form(header: &[u8]) -> bool {
+    let s = told(header);
+    header[4..8] == 1u32.to_le_bytes()
         && s.kind <= 1
         && (s.kind == 1 || s.epoch == 0)
-        && store[60..508].iter().all(|&b| b == 0)
+        && header[60..508].iter().all(|&b| b == 0)
 }
 
-/// A load's own order. A grid of no given length is of the right one.
-pub fn load(store: &[u8], grid: Option<usize>) -> u64 {
-    refuse! {
-        16, store.is_empty() || store.len() % BLOCK != 0;
-        17, !blocks_pass(store);
-        18, !is_form(store);
-    }
-    load_known(store, grid)
+/// A load's own order. A grid of no given length is of the right one. Without a whole block 0 there is no more to it
+/// than 16.
+pub fn load(store: &[u8], grid: Option<usize>) -> Causes {
+    let uneven = (16, store.is_empty() || store.len() % BLOCK != 0);
+    let Some(header) = blocks(store).next() else {
+        return vec![uneven];
+    };
+    let broken = blocks(store).zip(0..).any(|(block, number)| !passes(block, number));
+    let s = told(header);
+    let mut causes = vec![uneven, (17, broken), (18, !is_form(header))];
+    // An unknown kind of clock is 18 in a store, and not 3.
+    causes.extend(numbers::sketch(&Sketch {
+        kind: s.kind.min(1),
+        ..s
+    }));
+    of_grid(causes, &s, store, grid)
 }
 
-fn load_known(store: &[u8], grid: Option<usize>) -> u64 {
-    let s = told(store);
-    refuse! {
-        sketch(&s), sketch(&s) != 0;
-        16, store.len() != store_length(&s);
-    }
-    load_grid(&s, store, grid)
-}
-
-fn load_grid(s: &Sketch, store: &[u8], grid: Option<usize>) -> u64 {
-    let carried: Vec<u8> = store
-        .chunks(BLOCK)
+fn of_grid(before: Causes, s: &Sketch, store: &[u8], grid: Option<usize>) -> Causes {
+    let carried: Vec<u8> = blocks(store)
         .skip(1)
         .flat_map(|block| &block[4..508])
         .copied()
         .collect();
     let bytes = grid_bytes(s);
-    refuse! {
-        18, carried[bytes..].iter().any(|&b| b != 0);
-        6, grid.is_some_and(|lent| lent != bytes);
-        14, !all_sound(s, &carried[..bytes]);
-    }
-    0
+    let (cells, fill) = carried.split_at(bytes.min(carried.len()));
+    then(
+        before,
+        [
+            (16, store.len() != store_length(s)),
+            (18, fill.iter().any(|&b| b != 0)),
+            (6, grid.is_some_and(|lent| lent != bytes)),
+            (14, any_unsound(s, cells)),
+        ],
+    )
 }

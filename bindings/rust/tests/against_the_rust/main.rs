@@ -15,14 +15,18 @@ mod cells;
 mod damage;
 mod directed;
 mod held;
+mod hits;
 mod load_order;
 mod numbers;
 mod pair;
+mod pairs;
 mod plain_calls;
+mod random_calls;
 mod refusals;
 mod score;
 mod stores;
 mod stories;
+mod tally;
 
 #[allow(dead_code)]
 #[path = "../../../../oracle/src/choose.rs"]
@@ -99,7 +103,7 @@ fn story(dice: &mut Dice) -> Outcome {
     match dice.below(24) {
         0..12 => stories::story(dice),
         12..15 => cells::story(dice),
-        15..18 => plain_calls::story(dice),
+        15..18 => random_calls::story(dice),
         18..20 => damage::story(dice),
         _ => band::story(dice),
     }
@@ -107,12 +111,18 @@ fn story(dice: &mut Dice) -> Outcome {
 
 fn compare(run: &Run) -> Score {
     let mut score = Score::default();
-    for (name, story) in directed::ALL.into_iter().chain(refusals::ALL).chain(band::ALL) {
+    let directed = directed::ALL.into_iter().chain(refusals::ALL);
+    for (name, story) in directed.chain(band::ALL).chain(pairs::ALL) {
         score.count(name, story());
     }
     let mut dice = Dice::new(run.seed, 0);
     while score::calls() < run.calls && score.differences < ENOUGH {
         score.count("random", story(&mut dice));
+    }
+    for call in hits::CALLS {
+        let (line, outcome) = hits::told(call);
+        println!("{line}");
+        score.count(call, outcome);
     }
     score
 }

@@ -1,18 +1,27 @@
-//! Document 01, "Turning a call back", written down a second time: which number a call on any values is refused by.
+//! Document 01, "Turning a call back", written down a second time: the causes of a call on any values.
+//!
+//! Every cause can be asked for, also where one before it holds. So each is told for values out of range too: sizes stop
+//! at the largest number, a sub-window of length 0 has no number, and only what the lent bytes hold whole is a cell.
 
 use crate::stores::{BLOCK, CARRIED};
 use microscope::calls::Sketch;
 
-/// Answers the first of these causes that holds. Each is looked at only if none before it holds.
-macro_rules! refuse {
-    ($($number:expr, $cause:expr;)*) => {
-        $(if $cause { return $number; })*
-    };
+/// The numbers of a call, in the order in which they are looked at, and whether the cause of each holds.
+pub type Causes = Vec<(u64, bool)>;
+
+/// The number that a call is refused by: that of the first cause that holds, 0 if none does.
+pub fn first(causes: &Causes) -> u64 {
+    causes.iter().find(|(_, holds)| *holds).map_or(0, |&(number, _)| number)
 }
-pub(crate) use refuse;
+
+/// These causes behind those before them.
+pub fn then<const N: usize>(mut before: Causes, more: [(u64, bool); N]) -> Causes {
+    before.extend(more);
+    before
+}
 
 pub fn depth(t: usize) -> usize {
-    (t + 7).next_multiple_of(4)
+    t.saturating_add(7).checked_next_multiple_of(4).unwrap_or(usize::MAX)
 }
 
 fn fit(rows: usize, cols: usize) -> bool {
@@ -20,44 +29,38 @@ fn fit(rows: usize, cols: usize) -> bool {
     power && (1..=128).contains(&rows) && rows * cols.ilog2() as usize <= 128
 }
 
-pub fn params(t: usize, c: u32) -> u64 {
-    refuse! {
-        1, !(1..=4096).contains(&t);
-        2, !(2..=256).contains(&c);
-    }
-    0
+pub fn params(t: usize, c: u32) -> Causes {
+    vec![(1, !(1..=4096).contains(&t)), (2, !(2..=256).contains(&c))]
 }
 
 /// 1 to 4.
-pub fn settings(s: &Sketch) -> u64 {
-    refuse! {
-        params(s.t, s.c), params(s.t, s.c) != 0;
-        3, s.kind > 1 || !(1..=1 << 53).contains(&s.length);
-        4, !fit(s.rows, s.cols);
-    }
-    0
+fn settings(s: &Sketch) -> Causes {
+    then(
+        params(s.t, s.c),
+        [
+            (3, s.kind > 1 || !(1..=1 << 53).contains(&s.length)),
+            (4, !fit(s.rows, s.cols)),
+        ],
+    )
 }
 
 /// 1 to 5.
-pub fn sketch(s: &Sketch) -> u64 {
-    refuse! {
-        settings(s), settings(s) != 0;
-        5, s.state == 0;
-    }
-    0
+pub fn sketch(s: &Sketch) -> Causes {
+    then(settings(s), [(5, s.state == 0)])
 }
 
 pub fn grid_bytes(s: &Sketch) -> usize {
-    s.rows * s.cols * depth(s.t)
+    s.rows.saturating_mul(s.cols).saturating_mul(depth(s.t))
+}
+
+/// A fresh start is handed no random state.
+pub fn fresh(s: &Sketch, grid: &[u8]) -> Causes {
+    then(settings(s), [(6, grid.len() != grid_bytes(s))])
 }
 
 /// 1 to 6.
-pub fn with_grid(s: &Sketch, grid: &[u8]) -> u64 {
-    refuse! {
-        sketch(s), sketch(s) != 0;
-        6, grid.len() != grid_bytes(s);
-    }
-    0
+pub fn with_grid(s: &Sketch, grid: &[u8]) -> Causes {
+    then(sketch(s), [(6, grid.len() != grid_bytes(s))])
 }
 
 fn key_fits(s: &Sketch, key: &[u32]) -> bool {
@@ -65,151 +68,145 @@ fn key_fits(s: &Sketch, key: &[u32]) -> bool {
 }
 
 /// 1 to 7.
-pub fn with_key(s: &Sketch, key: &[u32], grid: &[u8]) -> u64 {
-    refuse! {
-        with_grid(s, grid), with_grid(s, grid) != 0;
-        7, !key_fits(s, key);
-    }
-    0
+fn with_key(s: &Sketch, key: &[u32], grid: &[u8]) -> Causes {
+    then(with_grid(s, grid), [(7, !key_fits(s, key))])
 }
 
-pub fn n_at(s: &Sketch, reading: u64) -> u64 {
-    if s.kind == 0 {
-        reading / s.length
-    } else {
-        reading.saturating_sub(s.epoch) / s.length
+fn n_at(s: &Sketch, reading: u64) -> Option<u64> {
+    match s.kind {
+        0 => reading.checked_div(s.length),
+        1 => reading.saturating_sub(s.epoch).checked_div(s.length),
+        _ => None,
     }
 }
 
+fn n_of(s: &Sketch) -> Option<u64> {
+    n_at(s, s.reading)
+}
+
+/// c^z, if a cell can have that zoom: 31 is the largest of any base, and so also of one out of range.
 pub fn unit(c: u32, z: u8) -> Option<u64> {
-    (c as u64).checked_pow(z as u32).filter(|&unit| unit <= u32::MAX as u64)
+    let unit = (c as u64).checked_pow(z as u32)?;
+    (z <= 31 && unit <= u32::MAX as u64).then_some(unit)
 }
 
-pub fn sound(t: usize, c: u32, cell: &[u8]) -> bool {
-    let s = u32::from_le_bytes([cell[t + 3], cell[t + 4], cell[t + 5], cell[t + 6]]);
-    unit(c, cell[t + 2]).is_some_and(|unit| (s as u64) < unit)
+fn unsound(t: usize, c: u32, cell: &[u8]) -> bool {
+    let Some(&[z, s0, s1, s2, s3]) = cell.get(t.saturating_add(2)..t.saturating_add(7)) else {
+        return false;
+    };
+    let s = u32::from_le_bytes([s0, s1, s2, s3]) as u64;
+    unit(c, z).is_none_or(|unit| s >= unit)
 }
 
-pub fn cell(s: &Sketch, grid: &[u8], index: usize) -> bool {
-    sound(s.t, s.c, &grid[index * depth(s.t)..][..depth(s.t)])
+pub fn unsound_at(s: &Sketch, grid: &[u8], index: usize) -> bool {
+    let cell = grid.chunks_exact(depth(s.t)).nth(index);
+    cell.is_some_and(|cell| unsound(s.t, s.c, cell))
 }
 
-pub fn all_sound(s: &Sketch, grid: &[u8]) -> bool {
-    grid.chunks(depth(s.t)).all(|cell| sound(s.t, s.c, cell))
+pub fn any_unsound(s: &Sketch, grid: &[u8]) -> bool {
+    grid.chunks_exact(depth(s.t)).any(|cell| unsound(s.t, s.c, cell))
 }
 
-fn key_sound(s: &Sketch, key: &[u32], grid: &[u8]) -> bool {
-    key.iter()
-        .enumerate()
-        .all(|(row, &column)| cell(s, grid, row * s.cols + column as usize))
+fn key_unsound(s: &Sketch, key: &[u32], grid: &[u8]) -> bool {
+    let columns = key.iter().map(|&column| column as usize).enumerate();
+    columns
+        .take(s.rows)
+        .filter(|&(_, column)| column < s.cols)
+        .any(|(row, column)| unsound_at(s, grid, row.saturating_mul(s.cols).saturating_add(column)))
 }
 
-/// Whether the cells that are judged are sound: all of them if the clock crosses on its way to this reading.
-fn judged(s: &Sketch, key: &[u32], reading: u64, grid: &[u8]) -> bool {
-    if n_at(s, reading) != n_at(s, s.reading) {
-        all_sound(s, grid)
+/// Whether an unsound cell is judged on the way to this reading: of all cells if the clock crosses, else of the key's. A
+/// call for the other kind of clock crosses nothing.
+fn judged(s: &Sketch, key: &[u32], kind: u32, reading: u64, grid: &[u8]) -> bool {
+    if s.kind == kind && n_at(s, reading) != n_of(s) {
+        any_unsound(s, grid)
     } else {
-        key_sound(s, key, grid)
+        key_unsound(s, key, grid)
     }
 }
 
-pub fn update(s: &Sketch, key: &[u32], grid: &[u8]) -> u64 {
-    refuse! {
-        with_key(s, key, grid), with_key(s, key, grid) != 0;
-        8, s.kind == 1;
-        14, !judged(s, key, s.reading.saturating_add(1), grid);
-    }
-    0
+pub fn update(s: &Sketch, key: &[u32], grid: &[u8]) -> Causes {
+    let unsound = judged(s, key, 0, s.reading.saturating_add(1), grid);
+    then(with_key(s, key, grid), [(8, s.kind == 1), (14, unsound)])
 }
 
-pub fn update_at(s: &Sketch, key: &[u32], time: u64, grid: &[u8]) -> u64 {
-    refuse! {
-        with_key(s, key, grid), with_key(s, key, grid) != 0;
-        8, s.kind == 0;
-        14, !judged(s, key, s.reading.max(time), grid);
-    }
-    0
+pub fn update_at(s: &Sketch, key: &[u32], time: u64, grid: &[u8]) -> Causes {
+    let unsound = judged(s, key, 1, s.reading.max(time), grid);
+    then(with_key(s, key, grid), [(8, s.kind == 0), (14, unsound)])
 }
 
-pub fn advance_to(s: &Sketch, time: u64, grid: &[u8]) -> u64 {
-    refuse! {
-        with_grid(s, grid), with_grid(s, grid) != 0;
-        8, s.kind == 0;
-        14, !judged(s, &[], s.reading.max(time), grid);
-    }
-    0
+pub fn advance_to(s: &Sketch, time: u64, grid: &[u8]) -> Causes {
+    let unsound = judged(s, &[], 1, s.reading.max(time), grid);
+    then(with_grid(s, grid), [(8, s.kind == 0), (14, unsound)])
 }
 
-pub fn read(s: &Sketch, key: &[u32], given: Option<f64>, grid: &[u8]) -> u64 {
-    refuse! {
-        with_key(s, key, grid), with_key(s, key, grid) != 0;
-        13, given.is_some_and(|f| n_at(s, s.reading) >= s.t as u64 && !(0.0..=1.0).contains(&f));
-        14, !key_sound(s, key, grid);
-    }
-    0
+/// A reading with the clock's fraction, and a mean.
+pub fn read(s: &Sketch, key: &[u32], grid: &[u8]) -> Causes {
+    then(with_key(s, key, grid), [(14, key_unsound(s, key, grid))])
 }
 
-pub fn bucket(s: &Sketch, row: usize, col: usize, grid: &[u8]) -> u64 {
-    refuse! {
-        with_grid(s, grid), with_grid(s, grid) != 0;
-        7, row >= s.rows || col >= s.cols;
-    }
-    0
+pub fn read_with(s: &Sketch, key: &[u32], fraction: f64, grid: &[u8]) -> Causes {
+    let full = n_of(s).is_some_and(|n| n >= s.t as u64);
+    then(
+        with_key(s, key, grid),
+        [
+            (13, full && !(0.0..=1.0).contains(&fraction)),
+            (14, key_unsound(s, key, grid)),
+        ],
+    )
 }
 
-pub fn whole_grid(s: &Sketch, grid: &[u8]) -> u64 {
-    refuse! {
-        with_grid(s, grid), with_grid(s, grid) != 0;
-        14, !all_sound(s, grid);
-    }
-    0
+pub fn bucket(s: &Sketch, row: usize, col: usize, grid: &[u8]) -> Causes {
+    then(with_grid(s, grid), [(7, row >= s.rows || col >= s.cols)])
 }
 
-pub fn merge(s: &Sketch, grid: &[u8], other: &Sketch, other_grid: &[u8]) -> u64 {
-    let either = [with_grid(s, grid), with_grid(other, other_grid)];
-    let lower = either.into_iter().filter(|&number| number != 0).min();
+pub fn whole_grid(s: &Sketch, grid: &[u8]) -> Causes {
+    then(with_grid(s, grid), [(14, any_unsound(s, grid))])
+}
+
+/// 1 to 6 come from either sketch.
+pub fn merge(s: &Sketch, grid: &[u8], other: &Sketch, other_grid: &[u8]) -> Causes {
+    let either = with_grid(s, grid).into_iter().zip(with_grid(other, other_grid));
+    let either = either.map(|((number, mine), (_, others))| (number, mine || others));
     let shape = |s: &Sketch| (s.rows, s.cols, s.t, s.c);
     let frame = |s: &Sketch| (s.kind, s.length, if s.kind == 1 { s.epoch } else { 0 });
-    refuse! {
-        lower.unwrap_or(0), lower.is_some();
-        10, shape(s) != shape(other);
-        11, frame(s) != frame(other);
-        12, n_at(s, s.reading) != n_at(other, other.reading);
-        14, !all_sound(s, grid) || !all_sound(other, other_grid);
-    }
-    0
+    let apart = n_of(s).zip(n_of(other)).is_some_and(|(mine, others)| mine != others);
+    then(
+        either.collect(),
+        [
+            (10, shape(s) != shape(other)),
+            (11, frame(s) != frame(other)),
+            (12, apart),
+            (14, any_unsound(s, grid) || any_unsound(other, other_grid)),
+        ],
+    )
 }
 
 pub fn store_length(s: &Sketch) -> usize {
-    BLOCK * (1 + grid_bytes(s).div_ceil(CARRIED))
+    let blocks = 1 + grid_bytes(s).div_ceil(CARRIED);
+    blocks.saturating_mul(BLOCK)
 }
 
-pub fn save(s: &Sketch, grid: &[u8], store: usize) -> u64 {
-    refuse! {
-        whole_grid(s, grid), whole_grid(s, grid) != 0;
-        16, store != store_length(s);
-    }
-    0
+pub fn save(s: &Sketch, grid: &[u8], store: usize) -> Causes {
+    then(whole_grid(s, grid), [(16, store != store_length(s))])
 }
 
 /// A call on one cell that needs no random state.
-pub fn one_cell(t: usize, c: u32, cell: &[u8]) -> u64 {
-    refuse! {
-        params(t, c), params(t, c) != 0;
-        6, cell.len() != depth(t);
-        14, !sound(t, c, cell);
-    }
-    0
+pub fn one_cell(t: usize, c: u32, cell: &[u8]) -> Causes {
+    then(params(t, c), [(6, cell.len() != depth(t)), (14, unsound(t, c, cell))])
 }
 
 /// A call that changes one cell.
-pub fn change(t: usize, c: u32, state: u64, crossing: Option<(u64, u64)>, cells: &[&[u8]]) -> u64 {
-    refuse! {
-        params(t, c), params(t, c) != 0;
-        5, state == 0;
-        6, cells.iter().any(|cell| cell.len() != depth(t));
-        9, crossing.is_some_and(|(new_n, crossed)| (1..t as u64 + 2).contains(&crossed) && crossed > new_n);
-        14, !cells.iter().all(|cell| sound(t, c, cell));
-    }
-    0
+pub fn change(t: usize, c: u32, state: u64, crossing: Option<(u64, u64)>, cells: &[&[u8]]) -> Causes {
+    let few = 1..(t as u64).saturating_add(2);
+    let too_far = |(new_n, crossed)| few.contains(&crossed) && crossed > new_n;
+    then(
+        params(t, c),
+        [
+            (5, state == 0),
+            (6, cells.iter().any(|cell| cell.len() != depth(t))),
+            (9, crossing.is_some_and(too_far)),
+            (14, cells.iter().any(|cell| unsound(t, c, cell))),
+        ],
+    )
 }

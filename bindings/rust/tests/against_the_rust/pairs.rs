@@ -1,0 +1,137 @@
+//! The recorded pairs of causes, crates/refusal_pairs/data/pairs: each call is refused by the number recorded with it.
+
+use crate::damage;
+use crate::held::Held;
+use crate::hits::CALLS;
+use crate::numbers;
+use crate::plain_calls::{self, Told};
+use crate::score::{Outcome, same, same_bytes};
+use microscope::calls::Sketch;
+
+pub const ALL: [(&str, fn() -> Outcome); 1] = [("recorded pairs", recorded)];
+
+static RECORDED: &[u8] = include_bytes!("../../../../crates/refusal_pairs/data/pairs");
+
+const WORDS: usize = 34;
+
+/// What the bytes of a grid are that a fresh start is lent, so that a write shows.
+const MARK: u8 = 7;
+
+/// A call as it is recorded: its words, and the store of a load.
+struct Case {
+    words: [u64; WORDS],
+    store: &'static [u8],
+}
+
+fn size(word: u64) -> usize {
+    usize::try_from(word).expect("a size")
+}
+
+fn small(word: u64) -> u32 {
+    u32::try_from(word).expect("a number below 2^32")
+}
+
+/// The first case of these bytes, and the bytes behind it.
+fn first_of(bytes: &'static [u8]) -> (Case, &'static [u8]) {
+    let (words, rest) = bytes.split_at(8 * WORDS);
+    let words = std::array::from_fn(|i| u64::from_le_bytes(words[8 * i..][..8].try_into().expect("eight bytes")));
+    let case = Case { words, store: &[] };
+    let (store, rest) = rest.split_at(if case.call() == "load" { size(words[33]) } else { 0 });
+    (Case { store, ..case }, rest)
+}
+
+/// A sketch's nine words, the bytes of its grid, and 1 + the index of the cell whose zoom is 255 (0: none).
+fn held(words: &[u64]) -> Held {
+    let sketch = Sketch {
+        rows: size(words[0]),
+        cols: size(words[1]),
+        t: size(words[2]),
+        c: small(words[3]),
+        kind: small(words[4]),
+        length: words[5],
+        epoch: words[6],
+        reading: words[7],
+        state: words[8],
+    };
+    let mut grid = vec![0; size(words[9])];
+    if let Some(index) = size(words[10]).checked_sub(1) {
+        grid[index * numbers::depth(sketch.t) + sketch.t + 2] = 255;
+    }
+    Held { sketch, grid }
+}
+
+impl Case {
+    fn call(&self) -> &'static str {
+        CALLS[size(self.words[0])]
+    }
+
+    fn key(&self) -> Vec<u32> {
+        let columns = &self.words[27..][..size(self.words[26])];
+        columns.iter().map(|&column| small(column)).collect()
+    }
+
+    fn mine(&self) -> Held {
+        let held = held(&self.words[4..15]);
+        if self.call() != "with_dimensions" {
+            return held;
+        }
+        Held {
+            grid: vec![MARK; held.grid.len()],
+            ..held
+        }
+    }
+
+    /// The sketch that a merge merges from.
+    fn others(&self) -> Held {
+        held(&self.words[15..26])
+    }
+
+    /// Makes the call.
+    fn told(&self, held: &Held, other: &Held) -> Told {
+        let key = self.key();
+        let [argument, column, room] = [31, 32, 33].map(|at| self.words[at]);
+        match self.call() {
+            "with_dimensions" => plain_calls::start(held, argument),
+            "update" => plain_calls::update(held, &key),
+            "update_at" => plain_calls::update_at(held, &key, argument),
+            "advance_to" => plain_calls::advance_to(held, argument),
+            "estimate" => plain_calls::estimate(held, &key),
+            "estimate_with" => plain_calls::estimate_with(held, &key, f64::from_bits(argument)),
+            "mean" => plain_calls::mean(held, &key),
+            "bucket_check" => plain_calls::bucket_check(held, size(argument), size(column)),
+            "max_zoom" => plain_calls::max_zoom(held),
+            "audit" => plain_calls::audit(held),
+            "merge" => plain_calls::merge(held, other),
+            "store_length" => plain_calls::store_length(held),
+            "save" => plain_calls::save(held, size(room)),
+            _ => damage::load(self.store, held.grid.len()),
+        }
+    }
+
+    fn as_recorded(&self) -> Outcome {
+        let (mine, others) = (self.mine(), self.others());
+        let (number, index) = self.told(&mine, &others)?;
+        same(
+            "the number and index",
+            (number, index as u64),
+            (self.words[1], self.words[2]),
+        )?;
+        // Lent to be read only, or the copy of what was lent to be written.
+        same_bytes("the grid lent", &mine.grid, &self.mine().grid)?;
+        same_bytes("the other's grid", &others.grid, &self.others().grid)
+    }
+}
+
+/// All calls are made, also behind one that differs: each pair of causes is to come.
+fn recorded() -> Outcome {
+    let mut rest = RECORDED;
+    let mut all = Ok(());
+    let mut count = 0;
+    while !rest.is_empty() {
+        let (case, behind) = first_of(rest);
+        let outcome = case.as_recorded();
+        all = all.and(outcome.map_err(|what| format!("{} of case {count}: {what}; {:?}", case.call(), case.words)));
+        (rest, count) = (behind, count + 1);
+    }
+    all
+}
