@@ -26,7 +26,7 @@ const MOST_ITEMS: u64 = 800;
 /// shutter closed at a crossing. The crossing in the same call may zoom in again, so the zoom after it does not tell.
 fn zoom_to_come(ours: &MicroCm, cell: &[u8]) -> u8 {
     let MicroParams { t, c } = ours.params();
-    let zoom = called(calls::cell_zoom(cell, t, c)).value as u8;
+    let zoom = cell[t + 2];
     let full = cell[ours.sub_window() as usize % (t + 2)] == 255;
     (zoom + full as u8).min(judge::max_zoom(c as u16))
 }
