@@ -1,16 +1,15 @@
 -- Demand 3 as the reading tells it: after every list of calls the call that reads a key is accepted, and the Over figure that it answers is the one that the band bounds.
-use Prim.Native.Nat.{ℕ, suc, _<_}
-use mathlib.Core.Path.{_≡_, refl}
+use Prim.Native.Nat.{ℕ}
+use mathlib.Core.Path.{_≡_, refl, sym, _∙_}
 use mathlib.Core.Bool.{true}
-use mathlib.Core.List.{List, [], _∷_}
-use lib.ListN.{length, getD}
-use native.Mathlib.Omega.{arith}
-use borrow.Author.Tests.{eq-eqb, lt-ltb}
+use mathlib.Core.List.{List}
+use borrow.Author.Tests.{not-false}
 use Rattle.laws.specs.Within.{Within}
 use Rattle.refusal.specs.declared.Verdict.the-variants.{Accepted, Unsound}
+use Rattle.refusal.proofs.VerdictLaws.{not-refused}
 use Rattle.microscope.specs.declared.ReadingAnswer.{ReadingAnswer}
 use Rattle.microscope.specs.Sketch.{keyCells}
-use Rattle.microscope.specs.Refusals.{allBelow, keyFits, readVerdict, readCall}
+use Rattle.microscope.specs.Refusals.{keyFits, readVerdict, readCall}
 use Rattle.microscope.specs.Workers.{Judged}
 use Rattle.microscope.proofs.KeyLaws.{key-cells-below}
 use Rattle.microscope.proofs.ReadingLaws.{key-read}
@@ -22,18 +21,14 @@ use Rattle.band.proofs.Runs.{sketchOf}
 use Rattle.band.proofs.Reached.{Reached}
 use Rattle.band.proofs.RefusalLaws.{sketch-pass}
 use Rattle.band.proofs.Steps.{reached}
+use Rattle.band.proofs.KeyRight.{key-of, of-key}
 use Rattle.band.proofs.Band.{band}
-
-each-below : (m : ℕ) (key : List ℕ) → ((row : ℕ) → row < length key → getD key row 0 < m) → allBelow m key ≡ true
-unfolding allBelow
-each-below m [] h = refl
-each-below m (x ∷ xs) h = rw (lt-ltb x m (h 0 (omega arith))) (each-below m xs (λ row l. h (suc row) (omega arith)))
 
 module _ (S : Settings) (ok : AcceptedSettings S) (key : List ℕ) (right : Key S key) where
   module _ (T : Tally) (σ : ℕ) (g : List ℕ) (h : Reached S T σ g) where
     fits : keyFits (sketchOf S (T .clock) σ) key ≡ true
     unfolding keyFits
-    fits = simp (eq-eqb _ _ (right .each-row)) (each-below (S .cols) key (λ row l. right .each-low row (rw (right .each-row) at l)))
+    fits = of-key S key right
 
     judged : Judged (sketchOf S (T .clock) σ) g (keyCells (sketchOf S (T .clock) σ) 0 key)
     judged =
@@ -63,3 +58,15 @@ module _ (S : Settings) (ok : AcceptedSettings S) (key : List ℕ) (right : Key 
     pub band-as-read : NeverAtTop S seed calls key
         → Within (bandWidth (covered S (tally S calls)) (S .params .c) (highestHeld S seed calls key)) (answer .over) (exact S (tally S calls) key)
     band-as-read top = rw answer-over (band S ok seed calls key right top)
+
+-- AND ONLY A KEY IS READ: whatever else is asked is refused
+module _ (S : Settings) (ok : AcceptedSettings S) (key : List ℕ) where
+  read-right : (T : Tally) (σ : ℕ) (g : List ℕ) → Reached S T σ g → readVerdict (sketchOf S (T .clock) σ) key g ≡ Accepted → Key S key
+  unfolding keyFits
+  read-right T σ g h v = key-of S key (not-false _ (not-refused 7 _ _ (sym (sketch-pass S ok T σ g h _) ∙ v) .0))
+
+  pub answer-right : (seed : ℕ) (calls : List Call) → readCall (after S seed calls .sketch) key (after S seed calls .grid) .verdict ≡ Accepted → Key S key
+  unfolding readCall
+  answer-right seed calls v =
+      let b = reached S ok seed calls in
+      read-right (tally S calls) (b .state) (b .grid) (b .known) (rw (b .is) at v)

@@ -14,4 +14,6 @@ pub mod CellKept
 pub mod Facts
 pub mod Band
 pub mod Examples
+pub mod KeyRight
 pub mod BandRead
+pub mod FreshStart

@@ -50,7 +50,7 @@ four-pass a b c d rest e =
     rw (no1 .0, no2 .0, no3 .0, not-refused 4 d Accepted (no3 .1) .0) refl
 
 -- 1 to 4 never arise: the clock moves, and its length stays
-settings-pass : (S : Settings) → AcceptedSettings S → (clock : SubWindowClock) → lengthOf clock ≡ lengthOf (S .clock) → (rest : Verdict) → refuseSettings (S .rows) (S .cols) (S .params) clock rest ≡ rest
+pub settings-pass : (S : Settings) → AcceptedSettings S → (clock : SubWindowClock) → lengthOf clock ≡ lengthOf (S .clock) → (rest : Verdict) → refuseSettings (S .rows) (S .cols) (S .params) clock rest ≡ rest
 settings-pass S ok clock e rest =
     rw e
     (four-pass (outside 1 4096 (S .params .t)) (outside 2 256 (S .params .c)) (outside 1 (2 ^ 53) (lengthOf (S .clock))) (not (gridFits (S .rows) (S .cols))) rest ok)
