@@ -10,6 +10,7 @@ pub mod Runs
 pub mod Reached
 pub mod RefusalLaws
 pub mod Steps
+pub mod AsTallied
 pub mod CellKept
 pub mod Facts
 pub mod Band

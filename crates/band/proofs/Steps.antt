@@ -42,7 +42,7 @@ module _ (S : Settings) (ok : AcceptedSettings S) where
             let same = next-refused (stateOf S (T .clock) σ g) call (verdict-accepts S ok T σ g h call ∙ e) in
             record { state = σ; grid = g; is = same; known = left same }
 
-  reached-on : (call : Call) (calls : List Call) (T : Tally) (σ : ℕ) (g : List ℕ) → Reached S T σ g → Beside S (Reached S) (tallied S T call) (next (stateOf S (T .clock) σ g) call)
+  pub reached-on : (call : Call) (calls : List Call) (T : Tally) (σ : ℕ) (g : List ℕ) → Reached S T σ g → Beside S (Reached S) (tallied S T call) (next (stateOf S (T .clock) σ g) call)
   reached-on call calls T σ g h = step T σ g h (Reached S) call (λ e v. done-reached S ok T σ g h call e) (λ same. h)
 
   -- FOR EVERY LIST OF CALLS
