@@ -13,7 +13,7 @@ use Rattle.band.specs.Calls.{Call, Settings, State, fresh, next, run}
 use Rattle.band.specs.Tally.{Tally, accepts, empty, tallied}
 use Rattle.band.specs.Peak.{zoomNow, zoomCrossing, peak}
 use Rattle.band.specs.Band.{AcceptedSettings, after}
-use Rattle.band.proofs.Runs.{stateOf, done, verdictOf, next-is, Beside}
+use Rattle.band.proofs.Runs.{stateOf, done, verdictOf, next-is}
 use Rattle.band.proofs.Reached.{Reached, fresh-reached}
 use Rattle.band.proofs.RefusalLaws.{verdict-accepts}
 use Rattle.band.proofs.Steps.{reached-on}

@@ -79,7 +79,8 @@ pub between : State → List Call → ℕ → ℕ
 between w [] j = zoomNow (w .sketch) (w .grid) j
 between w (call ∷ calls) j = max (zoomNow (w .sketch) (w .grid) j) (between (next w call) calls j)
 
--- THE FIGURES of the key 0 in one row: Over, the exact figure, k and M. Each call is judged by the tally's test alone, so that a long list can be computed
+-- the figures of the key 0 in one row: Over, the exact figure, k and M. Each call is judged by the tally's test alone, so that a long list can be computed;
+-- what is unfolded here is unfolded for all examples
 unfoldable figures : ℕ → ℕ → SubWindowClock → ℕ → List Call → ℕ × ℕ × ℕ × ℕ
 unfolding passage highest numberOf bytesOf eachOf least largest total seeded xorDown xorUp nextState yielded roundedDiv shutterOf withShutter maxZoom soundOf divideEach zoomOutOf creditOf insertOf closeOf clearOf emptied insideOf ceilingOf allAtMost timesEach zoomedIn zoomInFrom crossOf nOf keyCells countFrom insertAt insertEach recorded crossEach moved itemsIn leastIn sumBack bitsUpTo gridFits allBelow keyFits updateCall updateAtCall advanceCall firstUnsound accepts hits counted empty noted tallied tallyFrom exact zoomNow zoomInside zoomCrossing
 figures t c clock seed calls =

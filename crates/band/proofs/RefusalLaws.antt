@@ -41,19 +41,23 @@ arguments-accepts S (update key) = seven-eight (keyAccepted S key) (not (isCount
 arguments-accepts S (updateAt key reading) = seven-eight (keyAccepted S key) (isCount (S .clock))
 arguments-accepts S (advance reading) = seven-eight true (isCount (S .clock))
 
--- four causes that do not hold are passed by
-four-pass : (a b c d : Bool) (rest : Verdict) → refuse 1 a (refuse 2 b (refuse 3 c (refuse 4 d Accepted))) ≡ Accepted → refuse 1 a (refuse 2 b (refuse 3 c (refuse 4 d rest))) ≡ rest
+-- four causes that do not hold are passed by, whatever stands after them
+four-pass : (a b c d : Bool) (rest : Verdict) → refuse 1 a (refuse 2 b (refuse 3 c (refuse 4 d rest))) ≡ Accepted → (rest ≡ Accepted) × ((other : Verdict) → refuse 1 a (refuse 2 b (refuse 3 c (refuse 4 d other))) ≡ other)
 four-pass a b c d rest e =
-    let no1 = not-refused 1 a (refuse 2 b (refuse 3 c (refuse 4 d Accepted))) e in
-    let no2 = not-refused 2 b (refuse 3 c (refuse 4 d Accepted)) (no1 .1) in
-    let no3 = not-refused 3 c (refuse 4 d Accepted) (no2 .1) in
-    rw (no1 .0, no2 .0, no3 .0, not-refused 4 d Accepted (no3 .1) .0) refl
+    let no1 = not-refused 1 a (refuse 2 b (refuse 3 c (refuse 4 d rest))) e in
+    let no2 = not-refused 2 b (refuse 3 c (refuse 4 d rest)) (no1 .1) in
+    let no3 = not-refused 3 c (refuse 4 d rest) (no2 .1) in
+    let no4 = not-refused 4 d rest (no3 .1) in
+    (no4 .1, λ other. rw (no1 .0, no2 .0, no3 .0, no4 .0) refl)
+
+-- so what is accepted has settings by which nothing is refused, and what stands after 1 to 4 accepts too
+pub settings-first : (S : Settings) (rest : Verdict) → refuseSettings (S .rows) (S .cols) (S .params) (S .clock) rest ≡ Accepted → (rest ≡ Accepted) × ((other : Verdict) → refuseSettings (S .rows) (S .cols) (S .params) (S .clock) other ≡ other)
+settings-first S rest e =
+    four-pass (outside 1 4096 (S .params .t)) (outside 2 256 (S .params .c)) (outside 1 (2 ^ 53) (lengthOf (S .clock))) (not (gridFits (S .rows) (S .cols))) rest e
 
 -- 1 to 4 never arise: the clock moves, and its length stays
 pub settings-pass : (S : Settings) → AcceptedSettings S → (clock : SubWindowClock) → lengthOf clock ≡ lengthOf (S .clock) → (rest : Verdict) → refuseSettings (S .rows) (S .cols) (S .params) clock rest ≡ rest
-settings-pass S ok clock e rest =
-    rw e
-    (four-pass (outside 1 4096 (S .params .t)) (outside 2 256 (S .params .c)) (outside 1 (2 ^ 53) (lengthOf (S .clock))) (not (gridFits (S .rows) (S .cols))) rest ok)
+settings-pass S ok clock e rest = rw e (settings-first S Accepted ok .1 rest)
 
 module _ (S : Settings) (ok : AcceptedSettings S) (T : Tally) (σ : ℕ) (g : List ℕ) (h : Reached S T σ g) where
   abbrev k : MicroCm
