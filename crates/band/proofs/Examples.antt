@@ -130,7 +130,7 @@ examples = record {
   older = record { over-is = refl; exact-is = refl; covered-is = refl; held-is = refl };
 }
 
--- A REFUSED CALL does not count, and what its crossing would have held counts as little: done, each of these would zoom out.
+-- A REFUSED CALL changes nothing, and what a cell would have held inside it does not count for M: done, each of these would zoom out.
 -- Two columns (7): a pixel of 255 would be credited
 pub full-columns : Shows (byItems 1000) 3 fullColumns (0 ∷ []) 255 255 1 0
 unfolding figures
@@ -163,7 +163,8 @@ pub three-windows : Shows (oneRow 2 129 (CountBased 384 0)) 522263299 (times 102
 unfolding figures
 three-windows = shown 2 129 (CountBased 384 0) 522263299 (times 1024) refl 387 1024 3 1 refl
 
--- k = 2, M = 2: 8 too many as in `levels`, and the 767th item, alone in a shutter of 9, taken up: 16 of 24
+-- k = 2, M = 2: 8 too many as in `levels`, and the 767th item, alone in its shutter, closed up to a unit of 9: 16 of 24, all of it in the past
+-- sub-window. The cell stays at zoom 2 while a pixel of 87 is in it (zooming in asks for 85), so the present one is counted exactly
 pub levels-closed : Shows (byItems 767) 152 (times 767) (0 ∷ []) 783 767 2 2
 unfolding figures
 levels-closed = shown 1 3 (CountBased 767 0) 152 (times 767) refl 783 767 2 2 refl
