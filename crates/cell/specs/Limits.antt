@@ -2,7 +2,6 @@
 use Prim.Native.Nat.{ℕ}
 use mathlib.Core.Path.{_≡_}
 use Rattle.refusal.specs.Refusals.{numberOf}
-use Rattle.cell.specs.declared.MicroParams.{MicroParams}
 use Rattle.cell.specs.Refusals.{paramsVerdict}
 
 abbrev pub refusedBy : ℕ → ℕ → ℕ

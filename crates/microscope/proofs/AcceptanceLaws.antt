@@ -1,31 +1,28 @@
 -- What is accepted and which cells are looked at, read off the lists of causes: 14 applies where a judged cell is unsound, and no other cause asks for a byte. Assumes nothing.
 use Prim.Native.Nat.{ℕ, zero, suc, _+_, _*_, _^_, _≤_, _<_}
 use mathlib.Core.Path.{_≡_, refl, sym, ap, _∙_}
-use mathlib.Core.Bool.{Bool, true, false, cond, _&&_, _||_, true≢false}
+use mathlib.Core.Bool.{Bool, true, false, cond, _||_, true≢false}
 use mathlib.Core.List.{List, [], _∷_}
 use native.Mathlib.Omega.{arith}
 use native.Mathlib.Nat.{zero-add, add-zero, pow-le-pow-right, one-le-pow, pow-suc}
-use lib.Dec.{leb, ltb, eqb}
+use lib.Dec.{eqb}
 use lib.ListN.{length, getD}
-use borrow.Author.Tests.{ltb-true, lt-ltb, eq-eqb, ne-eqb, eqb-true, eqb-false, le-leb}
+use borrow.Author.Tests.{eq-eqb, ne-eqb, eqb-true, eqb-false, le-leb}
 use Rattle.laws.proofs.ChoiceLaws.{both-hold}
-use Rattle.refusal.specs.declared.Verdict.{Verdict}
-use Rattle.refusal.specs.declared.Verdict.the-variants.{Accepted, Unsound}
-use Rattle.refusal.specs.Refusals.{isAccepted}
 use Rattle.refusal.specs.Causes.{applies, paired}
 use Rattle.refusal.proofs.CauseLaws.{lowest-told}
 use Rattle.refusal.proofs.GateLaws.{gate-open}
 use Rattle.clock.specs.declared.SubWindowClock.{SubWindowClock}
-use Rattle.clock.specs.Clock.{nOf, isCount, tickOf, advanceOf}
-use Rattle.cell.specs.declared.MicroParams.{MicroParams}
+use Rattle.clock.specs.Clock.{nOf, tickOf, advanceOf}
 use Rattle.microscope.specs.declared.MicroCm.{MicroCm}
-use Rattle.microscope.specs.Sketch.{cellsOf, cellIndex, cellOf, keyCells, countFrom, allCells}
+use Rattle.microscope.specs.Sketch.{cellsOf, cellIndex, keyCells, countFrom, allCells}
 use Rattle.microscope.specs.Audit.{firstUnsound}
-use Rattle.microscope.specs.Refusals.{bitsUpTo, gridFits, allBelow, keyFits, refuseSketch, refuseKey, refuseTimed, refuseCounted, refuseUnsound, judgedCells, sketchVerdict, freshVerdict, updateVerdict, updateAtVerdict, advanceVerdict, bucketVerdict, highestVerdict, mergeVerdict}
+use Rattle.microscope.specs.Refusals.{bitsUpTo, gridFits, allBelow, keyFits, refuseSketch, judgedCells, updateVerdict, updateAtVerdict, advanceVerdict, highestVerdict, mergeVerdict}
 use Rattle.microscope.specs.Workers.{Judged}
 use Rattle.microscope.specs.Causes.{updateCauses, updateAtCauses, advanceCauses, highestCauses, mergeCauses}
-use Rattle.microscope.specs.Acceptance.{Fitting, Limits, OneColumnARow, soundAt, KeySound, SomeUnsound, Stays, Acceptance}
+use Rattle.microscope.specs.Acceptance.{Fitting, Limits, OneColumnARow, soundAt, SomeUnsound, Stays, Acceptance}
 use Rattle.microscope.proofs.SettingsLaws.{good-grid}
+use Rattle.microscope.proofs.AddressLaws.{all-below, each-below}
 use Rattle.microscope.proofs.SketchGates.{sketch-gate}
 use Rattle.microscope.proofs.JudgedLaws.{cons-judged}
 use Rattle.microscope.proofs.CauseTheorems.{sketch-calls}
@@ -65,23 +62,12 @@ limits =
     record { least = refl; no-row = refl; one-col = refl; no-power = refl; most-cols = refl; too-many-bits = refl; too-many-cols = refl; most-rows = refl; too-many-rows = refl }
 
 -- A KEY
-below-each : (m : ℕ) (key : List ℕ) → allBelow m key ≡ true → (row : ℕ) → row < length key → getD key row 0 < m
-unfolding allBelow
-below-each m [] e row h = absurd (omega arith)
-below-each m (x ∷ xs) e zero h = ltb-true x m (both-hold (ltb x m) (allBelow m xs) e .0)
-below-each m (x ∷ xs) e (suc row) h = below-each m xs (both-hold (ltb x m) (allBelow m xs) e .1) row (omega arith)
-
-pub each-below : (m : ℕ) (key : List ℕ) → ((row : ℕ) → row < length key → getD key row 0 < m) → allBelow m key ≡ true
-unfolding allBelow
-each-below m [] h = refl
-each-below m (x ∷ xs) h = rw (lt-ltb x m (h 0 (omega arith))) (each-below m xs (λ row l. h (suc row) (omega arith)))
-
 module _ (k : MicroCm) (key : List ℕ) where
   key-is : keyFits k key ≡ true → OneColumnARow k key
   unfolding keyFits
   key-is e =
       let parts = both-hold (eqb (length key) (k .rows)) (allBelow (k .cols) key) e in
-      record { each-row = eqb-true _ _ (parts .0); each-low = below-each (k .cols) key (parts .1) }
+      record { each-row = eqb-true _ _ (parts .0); each-low = all-below (k .cols) key (parts .1) }
 
   key-fits : OneColumnARow k key → keyFits k key ≡ true
   unfolding keyFits

@@ -1,6 +1,6 @@
 -- A row and a column below their limits make an index below the number of cells, and the cell of such an index lies in the grid.
 use Prim.Native.Nat.{ℕ, zero, suc, _+_, _*_, _^_, _≤_, _<_}
-use mathlib.Core.Path.{_≡_}
+use mathlib.Core.Path.{_≡_, refl}
 use mathlib.Core.Bool.{true}
 use mathlib.Core.List.{List, [], _∷_}
 use native.Mathlib.Omega.{arith}
@@ -8,7 +8,7 @@ use native.Mathlib.Nat.{le-trans, mul-le-mul-left, mul-le-mul-right}
 use lib.Arith.{digits-lt}
 use lib.Dec.{ltb, eqb}
 use lib.ListN.{length, getD}
-use borrow.Author.Tests.{ltb-true, eqb-true}
+use borrow.Author.Tests.{ltb-true, lt-ltb, eqb-true}
 use Rattle.laws.proofs.ChoiceLaws.{both-hold}
 use Rattle.laws.proofs.PartLaws.{piece-room}
 use Rattle.cell.specs.Cell.{depthOf}
@@ -23,6 +23,11 @@ unfolding allBelow
 all-below m [] e row h = absurd (omega arith)
 all-below m (x ∷ xs) e zero h = ltb-true x m (both-hold (ltb x m) (allBelow m xs) e .0)
 all-below m (x ∷ xs) e (suc row) h = all-below m xs (both-hold (ltb x m) (allBelow m xs) e .1) row (omega arith)
+
+pub each-below : (m : ℕ) (key : List ℕ) → ((row : ℕ) → row < length key → getD key row 0 < m) → allBelow m key ≡ true
+unfolding allBelow
+each-below m [] h = refl
+each-below m (x ∷ xs) h = rw (lt-ltb x m (h 0 (omega arith))) (each-below m xs (λ row l. h (suc row) (omega arith)))
 
 module _ (k : MicroCm) (key : List ℕ) (fits : keyFits k key ≡ true) where
   pub key-rows : length key ≡ k .rows

@@ -2,15 +2,14 @@
 use Prim.Native.Nat.{ℕ, suc, _≤_, _<_}
 use mathlib.Core.Path.{_≡_, refl, sym, ap, _∙_}
 use mathlib.Core.Bool.{Bool, true, false, cond, _&&_, true≢false}
-use mathlib.Core.List.{List, [], _∷_, _++_}
+use mathlib.Core.List.{List, [], _∷_}
 use native.Mathlib.Omega.{arith}
-use lib.Dec.{leb, ltb, eqb}
-use lib.Ieee.{Float}
+use lib.Dec.{leb}
 use borrow.Author.Tests.{leb-true, le-leb, lt-leb}
 use Rattle.refusal.specs.declared.Verdict.{Verdict}
 use Rattle.refusal.specs.declared.Verdict.the-variants.{Accepted, Refused, Unsound}
 use Rattle.refusal.specs.Refusals.{numberOf, isAccepted, whenAccepted}
-use Rattle.refusal.specs.Causes.{Cause, cause, unsound, told, holds, refuseBy, firstOf, paired, numbersOf, placeIn, rankedFrom, Told}
+use Rattle.refusal.specs.Causes.{Cause, told, holds, refuseBy, firstOf, paired, numbersOf, placeIn, rankedFrom}
 use Rattle.refusal.proofs.CauseLaws.{told-refuses, first-append}
 use Rattle.refusal.proofs.VerdictLaws.{accepted-is, refused-leaves}
 use Rattle.cell.specs.Cell.{soundOf}

@@ -8,9 +8,9 @@ use lib.Dec.{leb, ltb, eqb}
 use lib.ListN.{length}
 use borrow.Author.Tests.{leb-true, eqb-true, eq-eqb}
 use Rattle.refusal.specs.declared.Verdict.{Verdict}
-use Rattle.refusal.specs.declared.Verdict.the-variants.{Accepted, Refused, Unsound}
+use Rattle.refusal.specs.declared.Verdict.the-variants.{Accepted}
 use Rattle.refusal.specs.Refusals.{isAccepted, numberOf, whenAccepted}
-use Rattle.refusal.specs.Causes.{Cause, cause, unsound, told, holds, firstOf, applies, numbersOf, table, placeIn, rankOf, rankedFrom, inTableOrder, Told, Lowest, FirstHolding}
+use Rattle.refusal.specs.Causes.{Cause, cause, unsound, told, holds, firstOf, applies, numbersOf, table, placeIn, rankOf, rankedFrom, Told, ToldInLoadOrder, Lowest, FirstHolding, First}
 use Rattle.refusal.proofs.VerdictLaws.{accepted-is, refused-leaves}
 
 -- a cause turns a call back
@@ -169,3 +169,7 @@ first-holding (x ∷ xs) e = by (holds x) refl (first-holding xs)
           this-holds = it .this-holds;
           this-told = first-fails x xs q ∙ it .this-told;
         }
+
+-- A LOAD of which it is claimed
+pub first-told : (v : Verdict) (xs : List Cause) → ToldInLoadOrder v xs → First v xs
+first-told v xs t = rw (t .is) (record { first = first-holding xs; none-applies = none-applies xs; accepts = accepts xs })

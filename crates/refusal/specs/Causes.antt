@@ -84,7 +84,7 @@ pub record ToldInLoadOrder (v : Verdict) (causes : List Cause) : Type 0 where
   pub is : v ≡ firstOf causes
   pub ordered : numbersOf causes ≡ loadOrder
 
--- So, in document 01's words: the number given applies, it is the lowest that does, and a call is accepted exactly if none does
+-- WHAT FOLLOWS, in document 01's words: the number given applies, it is the lowest that does, and a call is accepted exactly if none does
 pub record Lowest (v : Verdict) (causes : List Cause) : Type 0 where
   pub told-applies : isAccepted v ≡ false → applies (numberOf v) causes ≡ true
   pub refuses : (k : ℕ) → applies k causes ≡ true → isAccepted v ≡ false
@@ -92,12 +92,17 @@ pub record Lowest (v : Verdict) (causes : List Cause) : Type 0 where
   pub none-applies : v ≡ Accepted → (k : ℕ) → applies k causes ≡ false
   pub accepts : ((k : ℕ) → applies k causes ≡ false) → v ≡ Accepted
 
--- IN ANY ORDER, a load's too: the cause that is told holds, and none before it
-pub record FirstHolding (v : Verdict) (xs : List Cause) : Type 0 where
+-- of a load: the cause that is told holds, and none that stands before it; and it is accepted exactly if none does
+pub record FirstHolding (v : Verdict) (causes : List Cause) : Type 0 where
   pub before : List Cause
   pub this : Cause
   pub behind : List Cause
-  pub split : xs ≡ before ++ this ∷ behind
+  pub split : causes ≡ before ++ this ∷ behind
   pub none-before : firstOf before ≡ Accepted
   pub this-holds : holds this ≡ true
   pub this-told : v ≡ told this
+
+pub record First (v : Verdict) (causes : List Cause) : Type 0 where
+  pub first : isAccepted v ≡ false → FirstHolding v causes
+  pub none-applies : v ≡ Accepted → (k : ℕ) → applies k causes ≡ false
+  pub accepts : ((k : ℕ) → applies k causes ≡ false) → v ≡ Accepted

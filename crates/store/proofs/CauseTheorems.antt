@@ -11,7 +11,6 @@ use Rattle.microscope.specs.declared.MicroCm.{MicroCm}
 use Rattle.microscope.specs.Sketch.{allCells}
 use Rattle.microscope.proofs.CauseTheorems.{one-cause}
 use Rattle.store_header.specs.Header.{sketchIn}
-use Rattle.store_header.specs.Refusals.{headerVerdict}
 use Rattle.store_header.specs.Causes.{headerCauses}
 use Rattle.store_header.proofs.CauseTheorems.{header-calls}
 use Rattle.store.specs.Refusals.{gridIn, headerPayload, gridVerdict, refuseLength, refuseBlocks, loadVerdict}
