@@ -1,8 +1,10 @@
 /*
  * MicroScope counting core: how often did a key come inside a sliding window?
  *
- * Link with target/libmicroscope.a (tools/build_library makes it); it needs memcpy and memset and nothing else.
- * docs/EDGE.md says what is proved of these calls and what is not.
+ * Link with target/libmicroscope.a (tools/build_library makes it, for Linux on x86-64); it needs memcpy and memset and
+ * nothing else. C from C11 on, C++ from C++98 on. docs/EDGE.md says what is proved of these calls and what is not;
+ * docs/BAND.md how far a figure may be off by rounding, and when that is claimed; docs/CHOOSING.md how to choose the
+ * settings, and traps.
  *
  * THE IDEA. A sketch is rows x cols cells. A key is one column for each row, so one cell in each row; how a key
  * becomes columns (a hash) is the caller's. The window is t sub-windows and the part of one more that has not left it
@@ -114,7 +116,8 @@ typedef struct {
 /*
  * One reading of a key, in items; all 0 if refused. `under` counts the t latest sub-windows, the one that is filling
  * among them; `over` also the one before these, of which a part has left the window; `linear` counts that one by
- * `fraction`. `over_items` and `under_items` are the same as whole numbers, below 2^53, so that the figures are exact.
+ * `fraction`. `over_items` and `under_items` are the same as whole numbers, below 2^53, so that as double they lose
+ * nothing. How far `over` may be from the items recorded in the key's cells, and when that is claimed: docs/BAND.md.
  */
 typedef struct {
     uint64_t number;
@@ -236,8 +239,8 @@ microscope_verdict microscope_bucket_check(microscope_sketch sketch, size_t row,
                                            size_t grid_bytes);
 
 /*
- * The highest zoom that any cell has now. A sketch that never left 0 has counted each item by itself: its figures are
- * exact, but for keys that share cells.
+ * The highest zoom that any cell has now. That it is 0 after each call does not say that the figures are exact: a call
+ * can raise a cell's zoom and lower it again (docs/BAND.md has the case, and what to watch in its place).
  */
 microscope_number microscope_max_zoom(microscope_sketch sketch, const uint8_t *grid, size_t grid_bytes);
 
@@ -302,10 +305,13 @@ microscope_drawn microscope_cell_merge(uint8_t *dst, size_t dst_bytes, const uin
 
 /* ---- the layouts that the library was compiled with (x86-64) ---- */
 
-#if defined(__cplusplus)
+#if !defined(__cplusplus)
+#define MICROSCOPE_ASSERT(fact) _Static_assert(fact, #fact)
+#elif __cplusplus >= 201103L
 #define MICROSCOPE_ASSERT(fact) static_assert(fact, #fact)
 #else
-#define MICROSCOPE_ASSERT(fact) _Static_assert(fact, #fact)
+/* C++98 has no assertion of its own: a fact that does not hold is an array of -1 elements. */
+#define MICROSCOPE_ASSERT(fact) extern char microscope_assert[(fact) ? 1 : -1]
 #endif
 #define MICROSCOPE_AT(type, field, at) MICROSCOPE_ASSERT(offsetof(type, field) == (at))
 

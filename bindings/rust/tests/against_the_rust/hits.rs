@@ -70,14 +70,12 @@ fn all_came(call: &str, hits: &BTreeMap<Pair, u64>) -> Outcome {
     Ok(())
 }
 
-/// The call's pairs in one line, and whether they are as they should be.
+/// How often each of the call's pairs came, in one line, and whether each came that should.
 pub fn told(call: &'static str) -> (String, Outcome) {
     let hits = HITS.with_borrow(|hits| hits.get(call).cloned().unwrap_or_default());
-    let came: Vec<_> = hits.iter().filter(|(_, count)| **count > 0).collect();
-    let least = came.iter().min_by_key(|(_, count)| **count);
-    let least = least.map_or("none".into(), |(pair, count)| format!("{} {count} times", name(pair)));
+    let each: Vec<String> = hits.iter().map(|(pair, count)| format!("{} {count}", name(pair))).collect();
     (
-        format!("{call}: {} pairs of causes, least often {least}", came.len()),
+        format!("{call}: pairs of causes, and how often: {}", each.join(", ")),
         all_came(call, &hits),
     )
 }

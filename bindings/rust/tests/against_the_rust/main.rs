@@ -65,7 +65,7 @@ use score::{Outcome, Score};
 use std::process::ExitCode;
 use std::time::{SystemTime, UNIX_EPOCH};
 
-const CALLS: u64 = 4_000_000;
+const CALLS: u64 = 5_000_000;
 
 /// Differences after which a run stops: one mistake makes many.
 const ENOUGH: u64 = 10;
