@@ -1,12 +1,12 @@
 // A line: which command it is, whether it has the words and the sketch that the command needs, and the command.
 use crate::cases;
-use crate::figures;
 use crate::files;
 use crate::fresh;
 use crate::items;
 use crate::merge;
 use crate::pictures;
 use crate::print;
+use crate::readings;
 use crate::slots;
 use crate::slots::Shelf;
 use crate::usage;
@@ -66,7 +66,7 @@ fn look(kind: Kind, line: &[u8], grids: &[u8], shelf: Shelf) {
     let grid = slots::grid(grids, place, slot.size);
     let sketch = slot.sketch;
     match kind {
-        Kind::Read | Kind::Mean => figures::tell(kind, line, sketch, grid),
+        Kind::Read | Kind::Mean => readings::tell(kind, line, sketch, grid),
         Kind::Cell => pictures::one_cell(line, sketch, grid),
         Kind::Grid => pictures::map(sketch, grid),
         Kind::Audit => audit(sketch, grid),

@@ -5,7 +5,6 @@
 mod cases;
 mod columns;
 mod commands;
-mod figures;
 mod files;
 mod floats;
 mod fresh;
@@ -15,6 +14,7 @@ mod merge;
 mod numbers;
 mod pictures;
 mod print;
+mod readings;
 mod slots;
 mod usage;
 mod verdicts;

@@ -2,8 +2,8 @@
 use borrow.Author.Needs.{needs}
 use Prim.Native.Nat.{_≤_, _-_}
 use lib.ListN.{length}
-use Rattle.workshop.proofs.figures.tell_zooms.Statement.{statement}
-use Rattle.workshop.proofs.figures.tell_zooms.Tie as tie
+use Rattle.workshop.proofs.readings.tell_zooms.Statement.{statement}
+use Rattle.workshop.proofs.readings.tell_zooms.Tie as tie
 
 abbrev Inv-loop : tie.InvT-loop
 Inv-loop sketch grid key row₀ row = row ≤ length key
