@@ -19,31 +19,20 @@ pub fn hex(before: &[u8], n: u64) {
     io::print_hex(STDOUT_FILENO, n, 16);
 }
 
-fn put(line: &mut [u8], at: usize, text: &[u8]) -> usize {
-    let mut place = at;
-    let mut i: usize = 0;
-    while i < text.len() {
-        words::set(line, place, text[i]);
-        place = std::num::wrapping_add_usize(place, 1);
-        i += 1;
-    }
-    place
-}
-
 fn put_number(line: &mut [u8], at: usize, n: u64) -> usize {
     let mut digits = [0u8; 20];
     let count = io::decimal(n, &mut digits);
-    put(line, at, &digits[..count])
+    words::put(line, at, &digits[..count])
 }
 
 // The answer of a call that counts, by one call of the system: long traces have little else.
 pub fn counted(n: u64, draws: u64) {
     let mut line = [0u8; 64];
-    let a = put(&mut line, 0, b"ok n=");
+    let a = words::put(&mut line, 0, b"ok n=");
     let b = put_number(&mut line, a, n);
-    let c = put(&mut line, b, b" draws=");
+    let c = words::put(&mut line, b, b" draws=");
     let d = put_number(&mut line, c, draws);
-    let e = put(&mut line, d, b"\n");
+    let e = words::put(&mut line, d, b"\n");
     text(words::part(&line, 0, e));
 }
 

@@ -24,6 +24,18 @@ pub fn set(bytes: &mut [u8], at: usize, value: u8) {
     }
 }
 
+// Writes a text at a place of a line, and gives the place behind it.
+pub fn put(line: &mut [u8], at: usize, text: &[u8]) -> usize {
+    let mut place = at;
+    let mut i: usize = 0;
+    while i < text.len() {
+        set(line, place, text[i]);
+        place = std::num::wrapping_add_usize(place, 1);
+        i += 1;
+    }
+    place
+}
+
 // Where a byte is first found from `from` on, and `to` if it is not found before.
 pub fn find(bytes: &[u8], from: usize, to: usize, byte: u8) -> usize {
     let mut at = from;

@@ -3,8 +3,8 @@ use borrow.Author.Needs.{needs}
 use mathlib.Core.Path.{_≡_}
 use Prim.Native.Nat.{_≤_, _-_}
 use lib.ListN.{length}
-use Rattle.workshop.proofs.print.put.Statement.{statement}
-use Rattle.workshop.proofs.print.put.Tie as tie
+use Rattle.workshop.proofs.words.put.Statement.{statement}
+use Rattle.workshop.proofs.words.put.Tie as tie
 
 abbrev Inv-loop : tie.InvT-loop
 Inv-loop line₀ at text place₀ i₀ line place i = (length line ≡ length line₀) × (i ≤ length text)
