@@ -70,11 +70,12 @@ fn whole_line(
     let shelf = session.shelf;
     let line = words::part(lines, session.from, end);
     let after = answered(session.skipping, line, grids, store, shelf);
+    let stopped = print::stopped();
     Session {
         from: std::num::wrapping_add_usize(end, 1),
         to: session.to,
         skipping: false,
-        more: true,
+        more: !stopped,
         shelf: after,
     }
 }

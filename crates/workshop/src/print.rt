@@ -1,22 +1,42 @@
 // Words and numbers on standard output.
 use crate::words;
+use libc::STDIN_FILENO;
 use libc::STDOUT_FILENO;
 ghost use Prim.Native.Nat.{_≤_, _<_};
 
+// At the first write that fails standard input and output are closed, and standard error is told. What was written stays a
+// true beginning of the answers. That input is closed is how `stopped` knows, so that no call here has to hand its answer on;
+// it stays so, as no command opens a file once it has begun its answer.
+fn sent(written: bool) {
+    if written {
+        return;
+    }
+    if libc::close(STDIN_FILENO) == 0 {
+        os::fail(b"workshop: standard output cannot be written");
+    }
+    libc::close(STDOUT_FILENO);
+}
+
+// Whether a write failed: from closed input not even no bytes can be read.
+pub fn stopped() -> bool {
+    let mut room = [0u8; 1];
+    libc::read(STDIN_FILENO, &mut room[0..0]) < 0
+}
+
 pub fn text(words: &[u8]) {
-    io::write_all(STDOUT_FILENO, words);
+    sent(io::write_all(STDOUT_FILENO, words));
 }
 
 // A number, and the words before it.
 pub fn number(before: &[u8], n: u64) {
     text(before);
-    io::print_decimal(STDOUT_FILENO, n);
+    sent(io::print_decimal(STDOUT_FILENO, n));
 }
 
 // The 16 digits of a number, and the words before it.
 pub fn hex(before: &[u8], n: u64) {
     text(before);
-    io::print_hex(STDOUT_FILENO, n, 16);
+    sent(io::print_hex(STDOUT_FILENO, n, 16));
 }
 
 fn put_number(line: &mut [u8], at: usize, n: u64) -> usize {
