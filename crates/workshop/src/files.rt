@@ -184,25 +184,45 @@ fn load_store(store: &[u8], grids: &mut [u8], place: usize, shelf: Shelf) -> She
     shelf.with(place, Slot { sketch, size })
 }
 
-fn read_file(fd: i32, room: &mut [u8]) -> usize {
-    let got = io::read_full(fd, room);
+// What was read of a file, and whether it ended there.
+struct Taken {
+    count: usize,
+    whole: bool,
+}
+
+// A read that fails, as of a directory, stops `read_full` as the end does; then one more read does not give 0.
+fn at_end(fd: i32) -> bool {
+    let mut more = [0u8; 1];
+    libc::read(fd, &mut more) == 0
+}
+
+fn read_file(name: &[u8], room: &mut [u8]) -> Taken {
+    let fd = os::open_read(name);
+    if fd < 0 {
+        return Taken {
+            count: 0,
+            whole: false,
+        };
+    }
+    let count = io::read_full(fd, room);
+    let whole = at_end(fd);
     libc::close(fd);
-    got
+    Taken { count, whole }
 }
 
 pub fn load(line: &[u8], grids: &mut [u8], room: &mut [u8], shelf: Shelf) -> Shelf {
     let name = words::word(line, 2);
-    let fd = os::open_read(name);
-    if fd < 0 {
-        failed(b"error expected a file that can be read, not ", name);
-        return shelf;
-    }
-    let got = read_file(fd, room);
+    let taken = read_file(name, room);
+    let got = taken.count;
     if got >= room.len() {
         failed(
             b"error expected a file of at most 1065984 bytes, not ",
             name,
         );
+        return shelf;
+    }
+    if !taken.whole {
+        failed(b"error expected a file that can be read, not ", name);
         return shelf;
     }
     let place = slots::place(words::word(line, 1));
