@@ -165,6 +165,11 @@ pub fn updates(line: &[u8], grids: &mut [u8], shelf: Shelf) -> Shelf {
         usage::expected(Kind::Updates);
         return shelf;
     };
+    // No call would judge the key, and an `ok` would say that one did.
+    if times == 0 {
+        usage::expected(Kind::Updates);
+        return shelf;
+    }
     keyed(Kind::Updates, Work::Update, times, line, 3, grids, shelf)
 }
 

@@ -101,7 +101,7 @@ fn form(kind: Kind) {
     match kind {
         Kind::Update => print::text(b"update ID COL,COL,.."),
         Kind::UpdateAt => print::text(b"update_at ID TIME COL,COL,.."),
-        Kind::Updates => print::text(b"updates ID TIMES COL,COL,.. with TIMES at most 1000000"),
+        Kind::Updates => print::text(b"updates ID TIMES COL,COL,.. with TIMES from 1 to 1000000"),
         Kind::Advance => print::text(b"advance ID TIME"),
         Kind::Merge => print::text(b"merge ID ID"),
         _ => reading_form(kind),
