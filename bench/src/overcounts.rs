@@ -211,8 +211,9 @@ fn runs(grid: Grid, keys: usize, traffic: Traffic) -> Result<Found, Error> {
 }
 
 fn collisions() -> Result<(), Error> {
-    println!("| grid | bytes | keys | came | mean | 95 of 100 | largest | exact | came | mean | 95 of 100 | largest | exact |");
-    println!("|---|---|---|---|---|---|---|---|---|---|---|---|---|");
+    let each = "came | mean | 95 of 100 | largest | exact |";
+    println!("| grid | bytes | keys | equal: {each} Zipf: {each}");
+    println!("|{}", "---|".repeat(13));
     for (rows, cols) in [(1, 64), (2, 64), (4, 64), (1, 256), (4, 256), (2, 1024), (4, 1024)] {
         let grid = Grid { rows, cols, hashing: own };
         let bytes = rows * cols * calls::depth(T, C).value as usize;
