@@ -3,6 +3,7 @@
 // The published files say `use smallvec::SmallVec`; this crate answers to that name.
 extern crate self as smallvec;
 
+mod choice;
 mod ours;
 mod standins;
 
@@ -29,6 +30,7 @@ pub use common::structures::matrix_storage::MatrixFastHash;
 pub use common::structures::vector3d::Vector3D;
 pub use standins::{Columns as DefaultXxHasher, DataInput, SketchHasher, SmallVec, analytics};
 
+use choice::Choice;
 use ours::Ours;
 use sketches::microscope::cell::reach;
 use sketches::microscope::{MicroCm, MicroParams, SubWindowClock};
@@ -36,19 +38,6 @@ use std::hint::black_box;
 use std::time::{Duration, Instant};
 
 type Theirs = MicroCm;
-
-/// splitmix64
-struct Choice(u64);
-
-impl Choice {
-    fn next(&mut self) -> u64 {
-        self.0 = self.0.wrapping_add(0x9e37_79b9_7f4a_7c15);
-        let mut z = self.0;
-        z = (z ^ (z >> 30)).wrapping_mul(0xbf58_476d_1ce4_e5b9);
-        z = (z ^ (z >> 27)).wrapping_mul(0x94d0_49bb_1331_11eb);
-        z ^ (z >> 31)
-    }
-}
 
 #[derive(Clone, Copy)]
 struct Shape {

@@ -4,6 +4,9 @@
 
 #![forbid(unsafe_code)]
 
+mod choice;
+
+use choice::Choice;
 use microscope::{Error, MicroCm, MicroParams, SubWindowClock, calls};
 
 const T: usize = 12;
@@ -17,21 +20,9 @@ const SUB_WINDOWS: usize = 3 * COVERED;
 /// Runs for each row of a table, each with keys of its own: one set of keys would show the luck of its columns.
 const RUNS: u64 = 30;
 
-/// splitmix64
-struct Choice(u64);
-
-impl Choice {
-    fn next(&mut self) -> u64 {
-        self.0 = self.0.wrapping_add(0x9e37_79b9_7f4a_7c15);
-        let mut z = self.0;
-        z = (z ^ (z >> 30)).wrapping_mul(0xbf58_476d_1ce4_e5b9);
-        z = (z ^ (z >> 27)).wrapping_mul(0x94d0_49bb_1331_11eb);
-        z ^ (z >> 31)
-    }
-
-    fn below(&mut self, bound: usize) -> usize {
-        (self.next() % bound as u64) as usize
-    }
+/// One of so many.
+fn below(choice: &mut Choice, bound: usize) -> usize {
+    (choice.next() % bound as u64) as usize
 }
 
 // ---- keys ----
@@ -40,7 +31,7 @@ impl Choice {
 fn codes(count: usize, choice: &mut Choice) -> Vec<String> {
     let mut all: Vec<usize> = (0..65_536).collect();
     for place in 0..count {
-        let other = place + choice.below(all.len() - place);
+        let other = place + below(choice, all.len() - place);
         all.swap(place, other);
     }
     let spelt = |code: usize| format!("{}{:04X}", ["P", "C", "B", "U"][code >> 14], code & 0x3fff);
@@ -259,7 +250,7 @@ impl Load {
     /// So many, give or take a tenth.
     fn items(self, sub_window: usize, choice: &mut Choice) -> u64 {
         let about = if sub_window % 20 == 0 { self.1 } else { self.0 };
-        (about - about / 10 + choice.below(about / 5 + 1)) as u64
+        (about - about / 10 + below(choice, about / 5 + 1)) as u64
     }
 }
 
