@@ -23,12 +23,12 @@ one-cell p b rest = by (soundOf (p .t) (p .c) b)
 pub cell-calls : CellCalls
 unfolding firstOf numbersOf placeIn rankedFrom
 cell-calls = record {
-  params = λ p. record { is = refl; ordered = refl };
-  max-zoom = λ c. record { is = refl; ordered = refl };
-  read = λ p b. record { is = rw (one-cell p b Accepted) refl; ordered = refl };
-  insert = λ p b σ. record { is = rw (one-cell p b Accepted) refl; ordered = refl };
-  cross = λ p n crossed b σ. record { is = rw (one-cell p b Accepted) refl; ordered = refl };
-  merge = λ p b src σ. record { is = rw (one-cell p b (refuseUnsound p src Accepted), one-cell p src Accepted) refl; ordered = refl };
+  params = λ p. record { is = refl; numbered = refl; ordered = refl };
+  max-zoom = λ c. record { is = refl; numbered = refl; ordered = refl };
+  read = λ p b. record { is = rw (one-cell p b Accepted) refl; numbered = refl; ordered = refl };
+  insert = λ p b σ. record { is = rw (one-cell p b Accepted) refl; numbered = refl; ordered = refl };
+  cross = λ p n crossed b σ. record { is = rw (one-cell p b Accepted) refl; numbered = refl; ordered = refl };
+  merge = λ p b src σ. record { is = rw (one-cell p b (refuseUnsound p src Accepted), one-cell p src Accepted) refl; numbered = refl; ordered = refl };
 }
 
 pub limits : Limits

@@ -33,9 +33,9 @@ mergeCauses p b src σ = paramsCauses p ++ noState σ ∷ badDepth p b ∷ badDe
 
 -- EVERY CALL on a cell is refused by the first of its causes that holds, and they stand in the table's order
 pub record CellCalls : Type 0 where
-  pub params : (p : MicroParams) → Told (paramsVerdict p) (paramsCauses p)
-  pub max-zoom : (c : ℕ) → Told (maxZoomVerdict c) (maxZoomCauses c)
-  pub read : (p : MicroParams) (b : List ℕ) → Told (cellVerdict p b) (cellCauses p b)
-  pub insert : (p : MicroParams) (b : List ℕ) (σ : ℕ) → Told (insertVerdict p b σ) (insertCauses p b σ)
-  pub cross : (p : MicroParams) (n crossed : ℕ) (b : List ℕ) (σ : ℕ) → Told (crossVerdict p n crossed b σ) (crossCauses p n crossed b σ)
-  pub merge : (p : MicroParams) (b src : List ℕ) (σ : ℕ) → Told (mergeVerdict p b src σ) (mergeCauses p b src σ)
+  pub params : (p : MicroParams) → Told (paramsVerdict p) (1 ∷ 2 ∷ []) (paramsCauses p)
+  pub max-zoom : (c : ℕ) → Told (maxZoomVerdict c) (2 ∷ []) (maxZoomCauses c)
+  pub read : (p : MicroParams) (b : List ℕ) → Told (cellVerdict p b) (1 ∷ 2 ∷ 6 ∷ 14 ∷ []) (cellCauses p b)
+  pub insert : (p : MicroParams) (b : List ℕ) (σ : ℕ) → Told (insertVerdict p b σ) (1 ∷ 2 ∷ 5 ∷ 6 ∷ 14 ∷ []) (insertCauses p b σ)
+  pub cross : (p : MicroParams) (n crossed : ℕ) (b : List ℕ) (σ : ℕ) → Told (crossVerdict p n crossed b σ) (1 ∷ 2 ∷ 5 ∷ 6 ∷ 9 ∷ 14 ∷ []) (crossCauses p n crossed b σ)
+  pub merge : (p : MicroParams) (b src : List ℕ) (σ : ℕ) → Told (mergeVerdict p b src σ) (1 ∷ 2 ∷ 5 ∷ 6 ∷ 6 ∷ 14 ∷ 14 ∷ []) (mergeCauses p b src σ)

@@ -7,9 +7,9 @@ use Rattle.clock.specs.Limits.{Limits}
 pub clock-calls : ClockCalls
 unfolding firstOf numbersOf placeIn rankedFrom
 clock-calls = record {
-  made = λ k. record { is = refl; ordered = refl };
-  tick = λ k. record { is = refl; ordered = refl };
-  advance = λ k. record { is = refl; ordered = refl };
+  made = λ k. record { is = refl; numbered = refl; ordered = refl };
+  tick = λ k. record { is = refl; numbered = refl; ordered = refl };
+  advance = λ k. record { is = refl; numbered = refl; ordered = refl };
 }
 
 pub limits : Limits

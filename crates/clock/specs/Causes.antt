@@ -18,6 +18,6 @@ advanceCauses k = badLength k ∷ isCounted k ∷ []
 
 -- EACH is refused by the first of its causes that holds, and they stand in the table's order
 pub record ClockCalls : Type 0 where
-  pub made : (k : SubWindowClock) → Told (lengthVerdict k) (lengthCauses k)
-  pub tick : (k : SubWindowClock) → Told (tickVerdict k) (tickCauses k)
-  pub advance : (k : SubWindowClock) → Told (advanceVerdict k) (advanceCauses k)
+  pub made : (k : SubWindowClock) → Told (lengthVerdict k) (3 ∷ []) (lengthCauses k)
+  pub tick : (k : SubWindowClock) → Told (tickVerdict k) (3 ∷ 8 ∷ []) (tickCauses k)
+  pub advance : (k : SubWindowClock) → Told (advanceVerdict k) (3 ∷ 8 ∷ []) (advanceCauses k)

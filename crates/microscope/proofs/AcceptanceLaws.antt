@@ -124,19 +124,19 @@ acceptance = record {
       gate-open (refuseSketch k g) (sketch-gate k g) _ good
       ∙ rw (fits, timed, staying-judges k (advanceOf (k .clock) reading) (keyCells k 0 key) stays) (key-judged k g key 0 (λ row l. rw zero-add (sound row l)));
   update-looks-at-all = λ k key g moves s.
-      lowest-told (updateVerdict k key g) (updateCauses k key g) (sketch-calls .update k key g) .refuses 14
+      lowest-told (updateVerdict k key g) _ (updateCauses k key g) (sketch-calls .update k key g) .refuses 14
       (rw (crossing-judges-all k (tickOf (k .clock)) (keyCells k 0 key) moves, all-unsound k g s) refl);
   update-at-looks-at-all = λ k key reading g moves s.
-      lowest-told (updateAtVerdict k key reading g) (updateAtCauses k key reading g) (sketch-calls .update-at k key reading g) .refuses 14
+      lowest-told (updateAtVerdict k key reading g) _ (updateAtCauses k key reading g) (sketch-calls .update-at k key reading g) .refuses 14
       (rw (crossing-judges-all k (advanceOf (k .clock) reading) (keyCells k 0 key) moves, all-unsound k g s) refl);
   advance-looks-at-all = λ k reading g moves s.
-      lowest-told (advanceVerdict k reading g) (advanceCauses k reading g) (sketch-calls .advance k reading g) .refuses 14
+      lowest-told (advanceVerdict k reading g) _ (advanceCauses k reading g) (sketch-calls .advance k reading g) .refuses 14
       (rw (crossing-judges-all k (advanceOf (k .clock) reading) [] moves, all-unsound k g s) refl);
-  highest-looks-at-all = λ k g s. lowest-told (highestVerdict k g) (highestCauses k g) (sketch-calls .highest k g) .refuses 14 (rw (all-unsound k g s) refl);
+  highest-looks-at-all = λ k g s. lowest-told (highestVerdict k g) _ (highestCauses k g) (sketch-calls .highest k g) .refuses 14 (rw (all-unsound k g s) refl);
   merge-looks-at-all = λ k g k' g' s.
-      lowest-told (mergeVerdict k g k' g') (mergeCauses k g k' g') (sketch-calls .merge k g k' g') .refuses 14 (rw (all-unsound k g s) refl);
+      lowest-told (mergeVerdict k g k' g') _ (mergeCauses k g k' g') (sketch-calls .merge k g k' g') .refuses 14 (rw (all-unsound k g s) refl);
   merge-looks-at-other = λ k g k' g' s.
-      lowest-told (mergeVerdict k g k' g') (mergeCauses k g k' g') (sketch-calls .merge k g k' g') .refuses 14 (other-applies (firstUnsound (λ i. true) false k g (allCells k)) _ (all-unsound k' g' s));
+      lowest-told (mergeVerdict k g k' g') _ (mergeCauses k g k' g') (sketch-calls .merge k g k' g') .refuses 14 (other-applies (firstUnsound (λ i. true) false k g (allCells k)) _ (all-unsound k' g' s));
 }
   where
     other-applies : (a b : Bool) → b ≡ true → a || (b || false) ≡ true

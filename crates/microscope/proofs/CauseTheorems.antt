@@ -128,14 +128,14 @@ module _ (k : MicroCm) (g : List ℕ) (k' : MicroCm) (g' : List ℕ) where
 pub sketch-calls : SketchCalls
 unfolding firstOf numbersOf placeIn rankedFrom paired
 sketch-calls = record {
-  fresh = λ rows cols p clock seed g. record { is = refl; ordered = refl };
-  update = λ k key g. record { is = rw (one-cause k g (judgedCells k (tickOf (k .clock)) (keyCells k 0 key)) Accepted) refl; ordered = refl };
-  update-at = λ k key reading g. record { is = rw (one-cause k g (judgedCells k (advanceOf (k .clock) reading) (keyCells k 0 key)) Accepted) refl; ordered = refl };
-  advance = λ k reading g. record { is = rw (one-cause k g (judgedCells k (advanceOf (k .clock) reading) []) Accepted) refl; ordered = refl };
-  read = λ k key g. record { is = rw (one-cause k g (keyCells k 0 key) Accepted) refl; ordered = refl };
-  read-with = λ k key fraction g. record { is = rw (one-cause k g (keyCells k 0 key) Accepted) refl; ordered = refl };
-  bucket = λ k row col g. record { is = refl; ordered = refl };
-  highest = λ k g. record { is = rw (one-cause k g (allCells k) Accepted) refl; ordered = refl };
-  audit = λ k g. record { is = refl; ordered = refl };
-  merge = λ k g k' g'. record { is = merge-is k g k' g'; ordered = refl };
+  fresh = λ rows cols p clock seed g. record { is = refl; numbered = refl; ordered = refl };
+  update = λ k key g. record { is = rw (one-cause k g (judgedCells k (tickOf (k .clock)) (keyCells k 0 key)) Accepted) refl; numbered = refl; ordered = refl };
+  update-at = λ k key reading g. record { is = rw (one-cause k g (judgedCells k (advanceOf (k .clock) reading) (keyCells k 0 key)) Accepted) refl; numbered = refl; ordered = refl };
+  advance = λ k reading g. record { is = rw (one-cause k g (judgedCells k (advanceOf (k .clock) reading) []) Accepted) refl; numbered = refl; ordered = refl };
+  read = λ k key g. record { is = rw (one-cause k g (keyCells k 0 key) Accepted) refl; numbered = refl; ordered = refl };
+  read-with = λ k key fraction g. record { is = rw (one-cause k g (keyCells k 0 key) Accepted) refl; numbered = refl; ordered = refl };
+  bucket = λ k row col g. record { is = refl; numbered = refl; ordered = refl };
+  highest = λ k g. record { is = rw (one-cause k g (allCells k) Accepted) refl; numbered = refl; ordered = refl };
+  audit = λ k g. record { is = refl; numbered = refl; ordered = refl };
+  merge = λ k g k' g'. record { is = merge-is k g k' g'; numbered = refl; ordered = refl };
 }

@@ -59,13 +59,13 @@ mergeCauses k g k' g' =
 
 -- EVERY CALL on a sketch is refused by the first of its causes that holds, and they stand in the table's order
 pub record SketchCalls : Type 0 where
-  pub fresh : (rows cols : ℕ) (p : MicroParams) (clock : SubWindowClock) (seed : ℕ) (g : List ℕ) → Told (freshVerdict rows cols p clock seed g) (freshCauses rows cols p clock seed g)
-  pub update : (k : MicroCm) (key g : List ℕ) → Told (updateVerdict k key g) (updateCauses k key g)
-  pub update-at : (k : MicroCm) (key : List ℕ) (reading : ℕ) (g : List ℕ) → Told (updateAtVerdict k key reading g) (updateAtCauses k key reading g)
-  pub advance : (k : MicroCm) (reading : ℕ) (g : List ℕ) → Told (advanceVerdict k reading g) (advanceCauses k reading g)
-  pub read : (k : MicroCm) (key g : List ℕ) → Told (readVerdict k key g) (readCauses k key g)
-  pub read-with : (k : MicroCm) (key : List ℕ) (fraction : Float) (g : List ℕ) → Told (readWithVerdict k key fraction g) (readWithCauses k key fraction g)
-  pub bucket : (k : MicroCm) (row col : ℕ) (g : List ℕ) → Told (bucketVerdict k row col g) (bucketCauses k row col g)
-  pub highest : (k : MicroCm) (g : List ℕ) → Told (highestVerdict k g) (highestCauses k g)
-  pub audit : (k : MicroCm) (g : List ℕ) → Told (sketchVerdict k g) (sketchCauses k g)
-  pub merge : (k : MicroCm) (g : List ℕ) (k' : MicroCm) (g' : List ℕ) → Told (mergeVerdict k g k' g') (mergeCauses k g k' g')
+  pub fresh : (rows cols : ℕ) (p : MicroParams) (clock : SubWindowClock) (seed : ℕ) (g : List ℕ) → Told (freshVerdict rows cols p clock seed g) (1 ∷ 2 ∷ 3 ∷ 4 ∷ 6 ∷ []) (freshCauses rows cols p clock seed g)
+  pub update : (k : MicroCm) (key g : List ℕ) → Told (updateVerdict k key g) (1 ∷ 2 ∷ 3 ∷ 4 ∷ 5 ∷ 6 ∷ 7 ∷ 8 ∷ 14 ∷ []) (updateCauses k key g)
+  pub update-at : (k : MicroCm) (key : List ℕ) (reading : ℕ) (g : List ℕ) → Told (updateAtVerdict k key reading g) (1 ∷ 2 ∷ 3 ∷ 4 ∷ 5 ∷ 6 ∷ 7 ∷ 8 ∷ 14 ∷ []) (updateAtCauses k key reading g)
+  pub advance : (k : MicroCm) (reading : ℕ) (g : List ℕ) → Told (advanceVerdict k reading g) (1 ∷ 2 ∷ 3 ∷ 4 ∷ 5 ∷ 6 ∷ 8 ∷ 14 ∷ []) (advanceCauses k reading g)
+  pub read : (k : MicroCm) (key g : List ℕ) → Told (readVerdict k key g) (1 ∷ 2 ∷ 3 ∷ 4 ∷ 5 ∷ 6 ∷ 7 ∷ 14 ∷ []) (readCauses k key g)
+  pub read-with : (k : MicroCm) (key : List ℕ) (fraction : Float) (g : List ℕ) → Told (readWithVerdict k key fraction g) (1 ∷ 2 ∷ 3 ∷ 4 ∷ 5 ∷ 6 ∷ 7 ∷ 13 ∷ 14 ∷ []) (readWithCauses k key fraction g)
+  pub bucket : (k : MicroCm) (row col : ℕ) (g : List ℕ) → Told (bucketVerdict k row col g) (1 ∷ 2 ∷ 3 ∷ 4 ∷ 5 ∷ 6 ∷ 7 ∷ []) (bucketCauses k row col g)
+  pub highest : (k : MicroCm) (g : List ℕ) → Told (highestVerdict k g) (1 ∷ 2 ∷ 3 ∷ 4 ∷ 5 ∷ 6 ∷ 14 ∷ []) (highestCauses k g)
+  pub audit : (k : MicroCm) (g : List ℕ) → Told (sketchVerdict k g) (1 ∷ 2 ∷ 3 ∷ 4 ∷ 5 ∷ 6 ∷ []) (sketchCauses k g)
+  pub merge : (k : MicroCm) (g : List ℕ) (k' : MicroCm) (g' : List ℕ) → Told (mergeVerdict k g k' g') (1 ∷ 1 ∷ 2 ∷ 2 ∷ 3 ∷ 3 ∷ 4 ∷ 4 ∷ 5 ∷ 5 ∷ 6 ∷ 6 ∷ 10 ∷ 11 ∷ 12 ∷ 14 ∷ 14 ∷ []) (mergeCauses k g k' g')

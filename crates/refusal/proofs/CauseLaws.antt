@@ -139,13 +139,13 @@ accepts xs none = by (isAccepted (firstOf xs)) refl
     by false q = absurd (true≢false (sym (told-applies xs q) ∙ none (numberOf (firstOf xs))))
 
 -- A CALL of which it is claimed
-pub lowest-told : (v : Verdict) (xs : List Cause) → Told v xs → Lowest v xs
-lowest-told v xs t =
+pub lowest-told : (v : Verdict) (ns : List ℕ) (xs : List Cause) → Told v ns xs → Lowest v xs
+lowest-told v ns xs t =
     rw (t .is)
     (record {
       told-applies = told-applies xs;
       refuses = applies-refuses xs;
-      lowest = λ k e. lowest xs 0 k (t .ordered) e;
+      lowest = λ k e. lowest xs 0 k (rw (t .numbered) (t .ordered)) e;
       none-applies = none-applies xs;
       accepts = accepts xs;
     })

@@ -65,24 +65,21 @@ unfoldable pub rankedFrom : ℕ → List ℕ → Bool
 rankedFrom r [] = true
 rankedFrom r (k ∷ ks) = leb r (rankOf k) && ltb (rankOf k) (length table) && rankedFrom (rankOf k) ks
 
--- the causes stand in the table's order
-abbrev pub inTableOrder : List Cause → Bool
-inTableOrder xs = rankedFrom 0 (numbersOf xs)
-
 -- A LOAD'S OWN ORDER: "buffer empty or no multiple of 512 (16), then 17 over every block, 18 over block 0, 1 to 5, exact block count (16),
 -- 18 for the zero fill after the grid, 6, 14"
 abbrev pub loadOrder : List ℕ
 loadOrder = 16 ∷ 17 ∷ 18 ∷ 1 ∷ 2 ∷ 3 ∷ 4 ∷ 5 ∷ 16 ∷ 18 ∷ 6 ∷ 14 ∷ []
 
--- WHAT IS CLAIMED OF A CALL: its verdict is that of its causes, which stand in the table's order
-pub record Told (v : Verdict) (causes : List Cause) : Type 0 where
+-- WHAT IS CLAIMED OF A CALL: its verdict is that of its causes; these have these numbers, which stand in the table's order
+pub record Told (v : Verdict) (numbers : List ℕ) (causes : List Cause) : Type 0 where
   pub is : v ≡ firstOf causes
-  pub ordered : inTableOrder causes ≡ true
+  pub numbered : numbersOf causes ≡ numbers
+  pub ordered : rankedFrom 0 numbers ≡ true
 
 -- and of a load, whose causes stand in its own order
 pub record ToldInLoadOrder (v : Verdict) (causes : List Cause) : Type 0 where
   pub is : v ≡ firstOf causes
-  pub ordered : numbersOf causes ≡ loadOrder
+  pub numbered : numbersOf causes ≡ loadOrder
 
 -- WHAT FOLLOWS, in document 01's words: the number given applies, it is the lowest that does, and a call is accepted exactly if none does
 pub record Lowest (v : Verdict) (causes : List Cause) : Type 0 where

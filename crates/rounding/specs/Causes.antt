@@ -14,5 +14,5 @@ divisionCauses d σ = noState σ ∷ noDivisor d ∷ []
 
 -- EACH is refused by the first of its causes that holds, and they stand in the table's order
 pub record DrawCalls : Type 0 where
-  pub draw : (σ : ℕ) → Told (drawVerdict σ) (drawCauses σ)
-  pub division : (d σ : ℕ) → Told (divisionVerdict d σ) (divisionCauses d σ)
+  pub draw : (σ : ℕ) → Told (drawVerdict σ) (5 ∷ []) (drawCauses σ)
+  pub division : (d σ : ℕ) → Told (divisionVerdict d σ) (5 ∷ 15 ∷ []) (divisionCauses d σ)

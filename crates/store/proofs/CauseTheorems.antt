@@ -39,6 +39,6 @@ load-is g store = ap (λ (v : Verdict). refuseBlocks store v) (ap by (header-cal
 pub store-calls : StoreCalls
 unfolding firstOf numbersOf placeIn rankedFrom
 store-calls = record {
-  save = λ k g store. record { is = rw (one-cause k g (allCells k) (refuseLength k store Accepted)) refl; ordered = refl };
-  load = λ g store. record { is = load-is g store; ordered = refl };
+  save = λ k g store. record { is = rw (one-cause k g (allCells k) (refuseLength k store Accepted)) refl; numbered = refl; ordered = refl };
+  load = λ g store. record { is = load-is g store; numbered = refl };
 }

@@ -24,5 +24,5 @@ loadCauses g store = noBlocks store ∷ badBlock store ∷ headerCauses (headerP
 
 -- BOTH are refused by the first of their causes that holds; those of a save stand in the table's order, those of a load in its own
 pub record StoreCalls : Type 0 where
-  pub save : (k : MicroCm) (g store : List ℕ) → Told (saveVerdict k g store) (saveCauses k g store)
+  pub save : (k : MicroCm) (g store : List ℕ) → Told (saveVerdict k g store) (1 ∷ 2 ∷ 3 ∷ 4 ∷ 5 ∷ 6 ∷ 14 ∷ 16 ∷ []) (saveCauses k g store)
   pub load : (g store : List ℕ) → ToldInLoadOrder (loadVerdict g store) (loadCauses g store)

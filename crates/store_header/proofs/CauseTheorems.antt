@@ -5,4 +5,4 @@ use Rattle.store_header.specs.Causes.{HeaderCalls}
 
 pub header-calls : HeaderCalls
 unfolding firstOf numbersOf placeIn rankedFrom
-header-calls = record { length = λ k. record { is = refl; ordered = refl }; header = λ p. refl }
+header-calls = record { length = λ k. record { is = refl; numbered = refl; ordered = refl }; header = λ p. refl }

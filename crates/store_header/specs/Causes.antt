@@ -18,5 +18,5 @@ abbrev pub headerCauses : List ℕ → List Cause
 headerCauses p = badForm p ∷ lengthCauses (sketchIn p)
 
 pub record HeaderCalls : Type 0 where
-  pub length : (k : MicroCm) → Told (lengthVerdict k) (lengthCauses k)
+  pub length : (k : MicroCm) → Told (lengthVerdict k) (1 ∷ 2 ∷ 3 ∷ 4 ∷ 5 ∷ []) (lengthCauses k)
   pub header : (p : List ℕ) → headerVerdict p ≡ firstOf (headerCauses p)
