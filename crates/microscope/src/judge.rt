@@ -97,7 +97,8 @@ pub fn sketch(sketch: MicroCm, grid: &[u8]) -> Verdict
     Verdict::Refused(6)
 }
 
-fn all_below(key: &[u32], cols: usize) -> bool
+// Whether each of these columns is below cols.
+pub fn all_below(key: &[u32], cols: usize) -> bool
     ensures { λ r. ⌜ r ≡ allBelow cols (now (key .entry)) ⌝ }
 {
     let mut row: usize = 0;

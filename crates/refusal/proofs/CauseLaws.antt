@@ -22,10 +22,15 @@ and-false : (a : Bool) → a && false ≡ false
 and-false true = refl
 and-false false = refl
 
--- THE TABLE goes by the numbers: document 01 gives the lowest
+-- THE TABLE goes by the numbers of document 01, which gives the lowest
 pub by-number : rankedFrom 0 (1 ∷ 2 ∷ 3 ∷ 4 ∷ 5 ∷ 6 ∷ 7 ∷ 8 ∷ 9 ∷ 10 ∷ 11 ∷ 12 ∷ 13 ∷ 14 ∷ 15 ∷ 16 ∷ 17 ∷ 18 ∷ []) ≡ true
 unfolding rankedFrom placeIn
 by-number = refl
+
+-- and document 02's stand where it puts them
+pub by-place : rankedFrom 0 (7 ∷ 19 ∷ 20 ∷ 14 ∷ []) ≡ true
+unfolding rankedFrom placeIn
+by-place = refl
 
 -- ONE CAUSE, and those behind it
 module _ (x : Cause) (xs : List Cause) where

@@ -47,9 +47,9 @@ unfoldable pub numbersOf : List Cause → List ℕ
 numbersOf [] = []
 numbersOf (x ∷ xs) = numberOf (told x) ∷ numbersOf xs
 
--- THE TABLE'S ORDER: the lowest number that applies is given
+-- THE TABLE'S ORDER: the lowest number that applies is given. Document 02's numbers rank by their place: 19 and 20 stand after 7 and before 14
 abbrev pub table : List ℕ
-table = 1 ∷ 2 ∷ 3 ∷ 4 ∷ 5 ∷ 6 ∷ 7 ∷ 8 ∷ 9 ∷ 10 ∷ 11 ∷ 12 ∷ 13 ∷ 14 ∷ 15 ∷ 16 ∷ 17 ∷ 18 ∷ []
+table = 1 ∷ 2 ∷ 3 ∷ 4 ∷ 5 ∷ 6 ∷ 7 ∷ 19 ∷ 20 ∷ 8 ∷ 9 ∷ 10 ∷ 11 ∷ 12 ∷ 13 ∷ 14 ∷ 15 ∷ 16 ∷ 17 ∷ 18 ∷ []
 
 -- the place of a number in an order, from 0 on; past its end for a number that is not in it
 unfoldable pub placeIn : List ℕ → ℕ → ℕ
