@@ -1,0 +1,12 @@
+pub mod FlagLaws
+pub mod InLaws
+pub mod NewlyLaws
+pub mod OntoLaws
+pub mod VerdictLaws
+pub mod CodeLaws
+pub mod CellLaws
+pub mod WatchedLaws
+pub mod RunLaws
+pub mod CauseTheorems
+pub mod Worked
+pub mod Askings

@@ -1,0 +1,137 @@
+-- What an accepted setting and an accepted asking say of their numbers: each cause, denied; a verdict of 14 denies those before it too. Assumes nothing.
+use Prim.Native.Nat.{ℕ, _*_, _≤_, _<_, min}
+use mathlib.Core.Path.{_≡_, refl, sym, ap, _∙_}
+use mathlib.Core.Bool.{Bool, true, false, not, cond, _&&_, true≢false}
+use mathlib.Core.List.{List, [], _∷_, _++_}
+use native.Mathlib.Omega.{arith}
+use native.Mathlib.Nat.{min-eq-left}
+use lib.Dec.{ltb, eqb}
+use lib.ListN.{length, take}
+use borrow.Author.Tests.{ltb-false, eqb-true, ne-eqb, not-true}
+use Rattle.laws.proofs.ChoiceLaws.{both-hold}
+use Rattle.refusal.specs.declared.Verdict.{Verdict}
+use Rattle.refusal.specs.declared.Verdict.the-variants.{Accepted, Refused, Unsound}
+use Rattle.refusal.specs.Refusals.{isAccepted, refuse}
+use Rattle.refusal.specs.Causes.{Cause, told, holds, refuseBy, firstOf}
+use Rattle.refusal.proofs.VerdictLaws.{accepted-is, refuse-then, not-refused}
+use Rattle.refusal.proofs.GateLaws.{Gate, gate-chain, gate-passed, gate-open, gate-shut}
+use Rattle.microscope.specs.declared.MicroCm.{MicroCm}
+use Rattle.microscope.specs.Refusals.{allBelow, refuseSketch, refuseUnsound, sketchVerdict}
+use Rattle.microscope.specs.Causes.{sketchCauses}
+use Rattle.microscope.specs.Workers.{Ready, Judged}
+use Rattle.microscope.proofs.SketchGates.{settingsOf, judged, settings-gate, judged-gate, sketch-gate}
+use Rattle.microscope.proofs.SettingsLaws.{not-false, GoodSettings, good-settings}
+use Rattle.microscope.proofs.ReadyLaws.{ready-of}
+use Rattle.codes.specs.declared.Watch.{Watch}
+use Rattle.codes.specs.Codes.{watchedCells}
+use Rattle.codes.specs.Refusals.{codesFit, keptFit, badCodes, foreignCodes, manyCodes, shortList, setVerdict, askVerdict}
+
+-- A LIST THAT IS SET
+pub record GoodSet (k : MicroCm) (columns : List ℕ) (count : ℕ) : Type 0 where
+  pub settings : GoodSettings (k .rows) (k .cols) (k .params) (k .clock)
+  pub whole : length columns ≡ count * k .rows
+  pub below : allBelow (k .cols) columns ≡ true
+  pub few : count ≤ 64
+
+pub set-accepted : (k : MicroCm) (columns : List ℕ) (count : ℕ) → setVerdict k columns count ≡ Accepted → GoodSet k columns count
+unfolding codesFit
+set-accepted k columns count e =
+    let past = gate-passed (judged k) (judged-gate k) (refuseBy (badCodes k columns count) (refuseBy (manyCodes count) Accepted)) e in
+    let no7 = not-refused 7 (not (codesFit k columns count)) (refuseBy (manyCodes count) Accepted) (past .1) in
+    let fit = both-hold (eqb (length columns) (count * k .rows)) (allBelow (k .cols) columns) (not-false _ (no7 .0)) in
+    record {
+      settings = good-settings (k .rows) (k .cols) (k .params) (k .clock) (gate-passed (settingsOf k) (settings-gate k) _ (past .0) .0);
+      whole = eqb-true _ _ (fit .0);
+      below = fit .1;
+      few = ltb-false 64 count (not-refused 19 (ltb 64 count) Accepted (no7 .1) .0);
+    }
+
+-- CODES THAT GO WITH A SKETCH, where there are any
+pub kept-fit : (k : MicroCm) (w : Watch) (columns : List ℕ) → keptFit k w columns ≡ true → 0 < w .count → w .count ≤ 64
+    → (w .rows ≡ k .rows) × (allBelow (k .cols) (take (w .count * k .rows) columns) ≡ true)
+unfolding keptFit
+kept-fit k w columns e some few =
+    let low = allBelow (k .cols) (take (min (w .count) 64 * k .rows) columns) in
+    let fit = both-hold (eqb (w .rows) (k .rows)) low (rw (ne-eqb (w .count) 0 (λ z. omega arith)) at e) in
+    (eqb-true _ _ (fit .0), rw (min-eq-left few) at (fit .1))
+
+-- AN ASKING: what is asked before its cells are
+module _ (k : MicroCm) (w : Watch) (columns g : List ℕ) (room : ℕ) where
+  abbrev pub asked : Verdict → Verdict
+  asked rest = refuseSketch k g (refuseBy (foreignCodes k w columns) (refuseBy (manyCodes (w .count)) (refuseBy (shortList (w .count) room) rest)))
+
+  pub asked-gate : Gate asked
+  asked-gate =
+      let foreign = not (keptFit k w columns) in
+      let many = ltb 64 (w .count) in
+      let short = ltb room (w .count) in
+      gate-chain (refuseSketch k g) (λ rest. refuse 7 foreign (refuse 19 many (refuse 20 short rest))) (sketch-gate k g)
+      (gate-chain (refuse 7 foreign) (λ rest. refuse 19 many (refuse 20 short rest)) (refuse-then 7 foreign)
+      (gate-chain (refuse 19 many) (refuse 20 short) (refuse-then 19 many) (refuse-then 20 short)))
+
+  pub record GoodAsk : Type 0 where
+    pub good : sketchVerdict k g ≡ Accepted
+    pub ready : Ready k (length g)
+    pub fit : keptFit k w columns ≡ true
+    pub few : w .count ≤ 64
+    pub roomy : w .count ≤ room
+
+  asked-good : asked Accepted ≡ Accepted → GoodAsk
+  asked-good e =
+      let past = gate-passed (refuseSketch k g) (sketch-gate k g) _ e in
+      let no7 = not-refused 7 (not (keptFit k w columns)) _ (past .1) in
+      let no19 = not-refused 19 (ltb 64 (w .count)) _ (no7 .1) in
+      let no20 = not-refused 20 (ltb room (w .count)) _ (no19 .1) in
+      record {
+        good = past .0;
+        ready = ready-of k g (past .0);
+        fit = not-false _ (no7 .0);
+        few = ltb-false 64 (w .count) (no19 .0);
+        roomy = ltb-false room (w .count) (no20 .0);
+      }
+
+  -- ACCEPTED
+  pub ask-accepted : askVerdict k w columns g room ≡ Accepted → GoodAsk × Judged k g (watchedCells k columns (w .count))
+  ask-accepted e =
+      let past = gate-passed asked asked-gate (refuseUnsound k g (watchedCells k columns (w .count)) Accepted) e in
+      (asked-good (past .0), past .1)
+
+-- only 14 names a cell
+abbrev namesCell : Verdict → Bool
+namesCell Accepted = false
+namesCell (Refused n) = false
+namesCell (Unsound j) = true
+
+unfoldable noneNames : List Cause → Bool
+noneNames [] = true
+noneNames (x ∷ xs) = not (namesCell (told x)) && noneNames xs
+
+first-names-none : (xs : List Cause) → noneNames xs ≡ true → namesCell (firstOf xs) ≡ false
+unfolding noneNames firstOf
+first-names-none [] e = refl
+first-names-none (x ∷ xs) e = by (holds x) (both-hold (not (namesCell (told x))) (noneNames xs) e) (first-names-none xs)
+  where
+    by : (h : Bool) → (not (namesCell (told x)) ≡ true) × (noneNames xs ≡ true) → (noneNames xs ≡ true → namesCell (firstOf xs) ≡ false)
+        → namesCell (cond h (told x) (firstOf xs)) ≡ false
+    by true parts later = not-true _ (parts .0)
+    by false parts later = later (parts .1)
+
+module _ (k : MicroCm) (w : Watch) (columns g : List ℕ) (room : ℕ) where
+  abbrev cells : Verdict
+  cells = refuseUnsound k g (watchedCells k columns (w .count)) Accepted
+
+  asked-names-none : namesCell (asked k w columns g room Accepted) ≡ false
+  unfolding noneNames firstOf
+  asked-names-none = first-names-none (sketchCauses k g ++ foreignCodes k w columns ∷ manyCodes (w .count) ∷ shortList (w .count) room ∷ []) refl
+
+  -- REFUSED BY 14
+  pub ask-unsound : (j : ℕ) → askVerdict k w columns g room ≡ Unsound j → GoodAsk k w columns g room × (cells ≡ Unsound j)
+  ask-unsound j e = by (isAccepted (asked k w columns g room Accepted)) refl
+    where
+      by : (a : Bool) → isAccepted (asked k w columns g room Accepted) ≡ a → GoodAsk k w columns g room × (cells ≡ Unsound j)
+      by true q =
+          let past : asked k w columns g room Accepted ≡ Accepted = accepted-is _ q in
+          (asked-good k w columns g room past, sym (gate-open (asked k w columns g room) (asked-gate k w columns g room) cells past) ∙ e)
+      by false q =
+          let shut = gate-shut (asked k w columns g room) (asked-gate k w columns g room) cells _ refl q in
+          absurd (true≢false (sym (ap namesCell (sym shut ∙ e)) ∙ asked-names-none))

@@ -1,0 +1,5 @@
+pub mod Codes
+pub mod Refusals
+pub mod Causes
+pub mod Askings
+pub mod Examples

@@ -1,0 +1,3 @@
+pub mod BadLaws
+pub mod JudgeLaws
+pub mod PassLaws

@@ -1,0 +1,16 @@
+-- A start of the service is the sketch's, with no codes beside it. Assumes nothing.
+use mathlib.Core.Path.{_≡_, ap}
+use mathlib.Core.List.{List}
+use Prim.Native.Nat.{ℕ}
+use Rattle.microscope.specs.declared.SketchAnswer.{SketchAnswer}
+use Rattle.microscope.specs.Refusals.{SketchOutcome, sketchOutcome}
+use Rattle.store.specs.declared.LoadAnswer.{LoadAnswer}
+use Rattle.store.specs.Refusals.{LoadOutcome, loadOutcome}
+use Rattle.service.specs.declared.ServiceAnswer.{ServiceAnswer}
+use Rattle.service.specs.Service.{served, serviceOutcome, startOf, loadOf}
+
+pub start-served : (a : SketchAnswer) (g : List ℕ) (o : SketchOutcome) (r : ServiceAnswer) → sketchOutcome a g ≡ o → r ≡ served (a .verdict) (a .sketch) → serviceOutcome r g ≡ startOf o
+start-served a g o r e er = rw er (ap startOf e)
+
+pub load-served : (a : LoadAnswer) (g : List ℕ) (o : LoadOutcome) (r : ServiceAnswer) → loadOutcome a g ≡ o → r ≡ served (a .verdict) (a .sketch) → serviceOutcome r g ≡ loadOf o
+load-served a g o r e er = rw er (ap loadOf e)
