@@ -18,10 +18,19 @@ use Rattle.microscope.specs.declared.ReadingAnswer.{ReadingAnswer}
 use Rattle.microscope.specs.declared.MeanAnswer.{MeanAnswer}
 use Rattle.microscope.specs.declared.HighestAnswer.{HighestAnswer}
 use Rattle.microscope.specs.declared.AuditAnswer.{AuditAnswer}
-use Rattle.microscope.specs.Refusals.{SketchOutcome, sketchOutcome, freshCall, updateCall, updateAtCall, advanceCall, readCall, readWithCall, meanCall, bucketVerdict, highestCall, auditCall, mergeCall}
+use Rattle.microscope.specs.Refusals.{SketchOutcome, sketchOutcome, updateCall, updateAtCall, advanceCall, readCall, readWithCall, meanCall, bucketVerdict, highestCall, auditCall, mergeCall}
 use Rattle.store.specs.declared.LengthAnswer.{LengthAnswer}
-use Rattle.store.specs.declared.LoadAnswer.{LoadAnswer}
-use Rattle.store.specs.Refusals.{saveOutcome, loadOutcome, lengthCall, saveCall, loadCall}
+use Rattle.store.specs.Refusals.{saveOutcome, lengthCall, saveCall}
+use Rattle.codes.specs.declared.Watch.{Watch}
+use Rattle.codes.specs.declared.WatchAnswer.{WatchAnswer}
+use Rattle.codes.specs.declared.AskAnswer.{AskAnswer}
+use Rattle.codes.specs.Refusals.{setOutcome, setCall, askOutcome, askCall}
+use Rattle.service.specs.declared.ServiceAnswer.{ServiceAnswer}
+use Rattle.service.specs.Service.{serviceOutcome, startCall, loadCall}
+use Rattle.plain.specs.declared.PlainWatch.{PlainWatch}
+use Rattle.plain.specs.declared.PlainStart.{PlainStart}
+use Rattle.plain.specs.declared.PlainWatched.{PlainWatched}
+use Rattle.plain.specs.declared.PlainAsked.{PlainAsked}
 use Rattle.plain.specs.declared.PlainSketch.{PlainSketch}
 use Rattle.plain.specs.declared.PlainSettings.{PlainSettings}
 use Rattle.plain.specs.declared.PlainChange.{PlainChange}
@@ -32,14 +41,14 @@ use Rattle.plain.specs.declared.PlainFigure.{PlainFigure}
 use Rattle.plain.specs.declared.PlainVerdict.{PlainVerdict}
 use Rattle.plain.specs.declared.PlainAudit.{PlainAudit}
 use Rattle.plain.specs.declared.PlainDrawn.{PlainDrawn}
-use Rattle.plain.specs.Edge.{clockOf, sketchOf, paramsOf, noPlain, settingsOf, sketchWith, readingAfter, stateAfter, toldOf, changedOf, changeOf, inPlace, plainOutcome, outcomeOf, answerOf, readingOf, valueOf, figureOf, meanOf, highestOf, verdictOf, auditOf, storeLengthOf, plainSave, saveOf, loadAnswerOf, loadOf, depthOf, zoomOf, shutterOf, pixelOf, plainCell, cellOf, drawnOf}
+use Rattle.plain.specs.Edge.{clockOf, sketchOf, paramsOf, watchOf, startOf, startOutcome, startedOf, watchedOf, plainSet, setOf, askedOf, plainAsk, askOf, settingsOf, sketchWith, readingAfter, stateAfter, toldOf, changedOf, changeOf, inPlace, plainOutcome, readingOf, valueOf, figureOf, meanOf, highestOf, verdictOf, auditOf, storeLengthOf, plainSave, saveOf, depthOf, zoomOf, shutterOf, pixelOf, plainCell, cellOf, drawnOf}
 
 -- A FRESH START
-pub fresh-told : (none : PlainSketch) (clock : SubWindowClock) (rows cols t c kind length epoch seed : ℕ) (a : SketchAnswer) (l g : List ℕ) (r : PlainAnswer) → none ≡ noPlain → clock ≡ clockOf kind length epoch epoch
-    → sketchOutcome a l ≡ freshCall rows cols (paramsOf t c) clock seed g → r ≡ answerOf none a → plainOutcome r l ≡ outcomeOf noPlain (freshCall rows cols (paramsOf t c) (clockOf kind length epoch epoch) seed g)
-fresh-told none clock rows cols t c kind length epoch seed a l g r en ec e er =
-    let q : sketchOutcome a l ≡ freshCall rows cols (paramsOf t c) (clockOf kind length epoch epoch) seed g = e ∙ rw ec in
-    rw (er, en) (ap (outcomeOf noPlain) q)
+pub fresh-told : (clock : SubWindowClock) (rows cols t c kind length epoch seed : ℕ) (a : ServiceAnswer) (l g : List ℕ) (r : PlainStart) → clock ≡ clockOf kind length epoch epoch
+    → serviceOutcome a l ≡ startCall rows cols (paramsOf t c) clock seed g → r ≡ startOf a → startOutcome r l ≡ startedOf (startCall rows cols (paramsOf t c) (clockOf kind length epoch epoch) seed g)
+fresh-told clock rows cols t c kind length epoch seed a l g r ec e er =
+    let q : serviceOutcome a l ≡ startCall rows cols (paramsOf t c) (clockOf kind length epoch epoch) seed g = e ∙ rw ec in
+    rw er (ap startedOf q)
 
 -- CALLS THAT CHANGE A SKETCH
 changed : (s : PlainSketch) (a : SketchAnswer) (g : List ℕ) (o : SketchOutcome) (r : PlainAnswer) → r ≡ changedOf (settingsOf s) (s .reading) (s .state) a → sketchOutcome a g ≡ o → plainOutcome r g ≡ changeOf s o
@@ -111,8 +120,23 @@ module _ (s : PlainSketch) (k : MicroCm) (ek : k ≡ sketchOf s) where
   pub save-told : (g store l : List ℕ) (v : Verdict) (r : PlainVerdict) → saveOutcome v l ≡ saveCall k g store → r ≡ verdictOf v → plainSave r l ≡ saveOf (saveCall (sketchOf s) g store)
   save-told g store l v r e er = let q : saveOutcome v l ≡ saveCall (sketchOf s) g store = e ∙ rw ek in rw er (ap saveOf q)
 
-pub load-told : (g store l : List ℕ) (a : LoadAnswer) (r : PlainAnswer) → loadOutcome a l ≡ loadCall g store → r ≡ loadAnswerOf a → plainOutcome r l ≡ loadOf (loadCall g store)
-load-told g store l a r e er = rw er (ap loadOf e)
+pub load-told : (g store l : List ℕ) (a : ServiceAnswer) (r : PlainStart) → serviceOutcome a l ≡ loadCall g store → r ≡ startOf a → startOutcome r l ≡ startedOf (loadCall g store)
+load-told g store l a r e er = rw er (ap startedOf e)
+
+-- WATCHED CODES
+module _ (s : PlainSketch) (k : MicroCm) (ek : k ≡ sketchOf s) (p : PlainWatch) (w : Watch) (ew : w ≡ watchOf p) where
+  pub set-told : (columns limits kept kept-limits now now-limits : List ℕ) (a : WatchAnswer) (r : PlainWatched)
+      → setOutcome a now now-limits ≡ setCall k w columns limits kept kept-limits → r ≡ watchedOf a
+      → plainSet r now now-limits ≡ setOf (setCall (sketchOf s) (watchOf p) columns limits kept kept-limits)
+  set-told columns limits kept kept-limits now now-limits a r e er =
+      let q : setOutcome a now now-limits ≡ setCall (sketchOf s) (watchOf p) columns limits kept kept-limits = e ∙ rw (ek, ew) in
+      rw er (ap setOf q)
+
+  pub ask-told : (columns limits g list list' : List ℕ) (a : AskAnswer) (r : PlainAsked) → askOutcome a list' ≡ askCall k w columns limits g list → r ≡ askedOf a
+      → plainAsk r list' ≡ askOf (askCall (sketchOf s) (watchOf p) columns limits g list)
+  ask-told columns limits g list list' a r e er =
+      let q : askOutcome a list' ≡ askCall (sketchOf s) (watchOf p) columns limits g list = e ∙ rw (ek, ew) in
+      rw er (ap askOf q)
 
 -- ONE CELL
 module _ (p : MicroParams) where

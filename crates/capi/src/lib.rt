@@ -5,3 +5,4 @@
 pub mod cells;
 pub mod sketches;
 pub mod stores;
+pub mod watched;

@@ -1,6 +1,5 @@
 // The calls on a sketch. The grid and the key are the caller's.
 use cell::MicroParams;
-use microscope::MicroCm;
 use plain::PlainAnswer;
 use plain::PlainAudit;
 use plain::PlainChange;
@@ -8,12 +7,15 @@ use plain::PlainNumber;
 use plain::PlainReading;
 use plain::PlainSettings;
 use plain::PlainSketch;
+use plain::PlainStart;
 use plain::PlainVerdict;
+use service::Service;
 ghost use mathlib.Core.Path.{_≡_};
-ghost use Rattle.microscope.specs.Refusals.{freshCall, updateCall, updateAtCall, advanceCall, readCall, readWithCall, meanCall, bucketVerdict, highestCall, auditCall, mergeCall};
-ghost use Rattle.plain.specs.Edge.{clockOf, sketchOf, paramsOf, noPlain, plainOutcome, outcomeOf, changeOf, sketchWith, inPlace, readingOf, meanOf, highestOf, verdictOf, auditOf};
+ghost use Rattle.microscope.specs.Refusals.{updateCall, updateAtCall, advanceCall, readCall, readWithCall, meanCall, bucketVerdict, highestCall, auditCall, mergeCall};
+ghost use Rattle.service.specs.Service.{startCall};
+ghost use Rattle.plain.specs.Edge.{clockOf, sketchOf, paramsOf, startOutcome, startedOf, plainOutcome, changeOf, sketchWith, inPlace, readingOf, meanOf, highestOf, verdictOf, auditOf};
 
-// A fresh sketch: every byte of the grid is written 0. Any seed will do.
+// A fresh sketch, and no codes: every byte of the grid is written 0. Any seed will do.
 #[no_mangle]
 pub extern "C" fn microscope_new(
     rows: usize,
@@ -25,13 +27,13 @@ pub extern "C" fn microscope_new(
     epoch: u64,
     seed: u64,
     grid: &mut [u8],
-) -> PlainAnswer
-    ensures { λ r. ⌜ plainOutcome r (now (grid .exit)) ≡ outcomeOf noPlain (freshCall rows cols (paramsOf t c) (clockOf kind length epoch epoch) seed (now (grid .entry))) ⌝ }
+) -> PlainStart
+    ensures { λ r. ⌜ startOutcome r (now (grid .exit)) ≡ startedOf (startCall rows cols (paramsOf t c) (clockOf kind length epoch epoch) seed (now (grid .entry))) ⌝ }
 {
     let params = MicroParams { t, c };
     let clock = plain::clock(kind, length, epoch, epoch);
-    let answer = MicroCm::with_dimensions(rows, cols, params, clock, seed, grid);
-    plain::answer(plain::none(), answer)
+    let answer = Service::with_dimensions(rows, cols, params, clock, seed, grid);
+    plain::started(answer)
 }
 
 // One item on a clock that counts items.

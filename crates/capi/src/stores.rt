@@ -1,11 +1,12 @@
 // The calls on a store. The buffers are the caller's.
-use plain::PlainAnswer;
 use plain::PlainNumber;
 use plain::PlainSketch;
+use plain::PlainStart;
 use plain::PlainVerdict;
 ghost use mathlib.Core.Path.{_≡_};
-ghost use Rattle.store.specs.Refusals.{lengthCall, saveCall, loadCall};
-ghost use Rattle.plain.specs.Edge.{sketchOf, plainOutcome, storeLengthOf, plainSave, saveOf, loadOf};
+ghost use Rattle.store.specs.Refusals.{lengthCall, saveCall};
+ghost use Rattle.service.specs.Service.{loadCall};
+ghost use Rattle.plain.specs.Edge.{sketchOf, startOutcome, startedOf, storeLengthOf, plainSave, saveOf};
 
 // How many bytes a sketch's store takes.
 #[no_mangle]
@@ -32,11 +33,11 @@ pub extern "C" fn microscope_save(
     plain::told(verdict)
 }
 
-// The sketch of a store, and its grid; the grid stays as it was if refused.
+// The sketch of a store, its grid, and no codes; the grid stays as it was if refused.
 #[no_mangle]
-pub extern "C" fn microscope_load(grid: &mut [u8], store: &[u8]) -> PlainAnswer
-    ensures { λ r. ⌜ plainOutcome r (now (grid .exit)) ≡ loadOf (loadCall (now (grid .entry)) (now (store .entry))) ⌝ }
+pub extern "C" fn microscope_load(grid: &mut [u8], store: &[u8]) -> PlainStart
+    ensures { λ r. ⌜ startOutcome r (now (grid .exit)) ≡ startedOf (loadCall (now (grid .entry)) (now (store .entry))) ⌝ }
 {
-    let answer = store::load(grid, store);
-    plain::loaded(answer)
+    let answer = service::load(grid, store);
+    plain::started(answer)
 }

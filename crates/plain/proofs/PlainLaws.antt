@@ -16,12 +16,16 @@ use Rattle.microscope.specs.declared.SketchAnswer.{SketchAnswer}
 use Rattle.microscope.specs.declared.ReadingAnswer.{ReadingAnswer}
 use Rattle.microscope.specs.declared.AuditAnswer.{AuditAnswer}
 use Rattle.microscope.specs.declared.Finding.the-variants.{Sound, Unsound}
-use Rattle.store.specs.declared.LoadAnswer.{LoadAnswer}
+use Rattle.microscope.specs.Refusals.{noSketch}
+use Rattle.codes.specs.declared.WatchAnswer.{WatchAnswer}
+use Rattle.codes.specs.declared.AskAnswer.{AskAnswer}
+use Rattle.service.specs.declared.ServiceAnswer.{ServiceAnswer}
+use Rattle.plain.specs.declared.PlainWatch.{PlainWatch}
 use Rattle.plain.specs.declared.PlainSketch.{PlainSketch}
 use Rattle.plain.specs.declared.PlainSettings.{PlainSettings}
 use Rattle.plain.specs.declared.PlainChange.{PlainChange}
 use Rattle.plain.specs.declared.PlainAnswer.{PlainAnswer}
-use Rattle.plain.specs.Edge.{clockOf, sketchOf, sketchWith, settingsOf, readingIn, readingAfter, stateAfter, toldOf, changedOf, inPlace, plainWith, plainOf, answerOf, noPlain, readingOf, valueOf, figureOf, verdictOf, foundOf, auditOf, loadAnswerOf, drawnOf}
+use Rattle.plain.specs.Edge.{clockOf, sketchOf, sketchWith, settingsOf, readingIn, readingAfter, stateAfter, toldOf, changedOf, inPlace, plainWith, plainOf, plainWatch, startOf, watchedOf, askedOf, readingOf, valueOf, figureOf, verdictOf, foundOf, auditOf, drawnOf}
 
 -- THE CLOCK of a kind
 module _ (kind length epoch reading : ℕ) where
@@ -76,12 +80,22 @@ module _ (v : Verdict) (n i : ℕ) (en : n ≡ numberOf v) (ei : i ≡ indexOf v
   pub told-is : record { number = n; index = i } ≡ verdictOf v
   told-is = rw (en, ei) refl
 
-module _ (s : PlainSketch) (r : SketchAnswer) (ok : Bool) (asked : ok ≡ isAccepted (r .verdict)) (n i : ℕ) (en : n ≡ numberOf (r .verdict)) (ei : i ≡ indexOf (r .verdict)) where
-  pub answer-refused : not ok ≡ true → record { number = n; index = i; draws = r .draws; sketch = s } ≡ answerOf s r
-  answer-refused h = rw (en, ei, refused-leaves (r .verdict) (plainOf (r .sketch)) s (turned-back (r .verdict) ok asked h)) refl
+pub start-is : (r : ServiceAnswer) (n i : ℕ) (plain : PlainSketch) (watch : PlainWatch) → n ≡ numberOf (r .verdict) → i ≡ indexOf (r .verdict) → plain ≡ plainOf (r .service .sketch)
+    → watch ≡ plainWatch (r .service .watch) → record { number = n; index = i; sketch = plain; watch = watch } ≡ startOf r
+start-is r n i plain watch en ei ep ew = rw (en, ei, ep, ew) refl
 
-  pub answer-accepted : not ok ≡ false → (plain : PlainSketch) → plain ≡ plainOf (r .sketch) → record { number = n; index = i; draws = r .draws; sketch = plain } ≡ answerOf s r
-  answer-accepted h plain e = rw (en, ei, e, let-pass (r .verdict) ok asked h) refl
+-- a start that was refused hands back zeros
+pub no-sketch-plain : plainOf noSketch ≡ record { rows = 0; cols = 0; t = 0; c = 0; kind = 0; length = 0; epoch = 0; reading = 0; state = 0 }
+unfolding plainWith
+no-sketch-plain = refl
+
+-- WATCHED CODES
+module _ (n i : ℕ) (watch : PlainWatch) where
+  pub watched-is : (r : WatchAnswer) → n ≡ numberOf (r .verdict) → i ≡ indexOf (r .verdict) → watch ≡ plainWatch (r .watch) → record { number = n; index = i; watch = watch } ≡ watchedOf r
+  watched-is r en ei ew = rw (en, ei, ew) refl
+
+  pub asked-is : (r : AskAnswer) → n ≡ numberOf (r .verdict) → i ≡ indexOf (r .verdict) → watch ≡ plainWatch (r .watch) → record { number = n; index = i; listed = r .listed; watch = watch } ≡ askedOf r
+  asked-is r en ei ew = rw (en, ei, ew) refl
 
 pub change-is : (r : SketchAnswer) (n i : ℕ) → n ≡ numberOf (r .verdict) → i ≡ indexOf (r .verdict) → record { number = n; index = i; draws = r .draws } ≡ toldOf r
 change-is r n i en ei = rw (en, ei) refl
@@ -106,13 +120,6 @@ beside-is m change reading state s e = rw e refl
 pub changed-is : (s : PlainSketch) (m : PlainSettings) (reading' state' : ℕ) (a : SketchAnswer) (change : PlainChange) (r : PlainAnswer) → m ≡ settingsOf s → change ≡ toldOf a → reading' ≡ readingAfter (s .reading) a
     → state' ≡ stateAfter (s .state) a → r ≡ inPlace m change reading' state' → r ≡ changedOf (settingsOf s) (s .reading) (s .state) a
 changed-is s m reading' state' a change r em ec er es e = e ∙ rw (em, ec, er, es)
-
-module _ (r : LoadAnswer) (ok : Bool) (asked : ok ≡ isAccepted (r .verdict)) (n i : ℕ) (en : n ≡ numberOf (r .verdict)) (ei : i ≡ indexOf (r .verdict)) (plain : PlainSketch) where
-  pub load-refused : not ok ≡ true → plain ≡ noPlain → record { number = n; index = i; draws = 0; sketch = plain } ≡ loadAnswerOf r
-  load-refused h e = rw (en, ei, e, refused-leaves (r .verdict) (plainOf (r .sketch)) noPlain (turned-back (r .verdict) ok asked h)) refl
-
-  pub load-accepted : not ok ≡ false → plain ≡ plainOf (r .sketch) → record { number = n; index = i; draws = 0; sketch = plain } ≡ loadAnswerOf r
-  load-accepted h e = rw (en, ei, e, let-pass (r .verdict) ok asked h) refl
 
 pub reading-is : (r : ReadingAnswer) (n i : ℕ) → n ≡ numberOf (r .verdict) → i ≡ indexOf (r .verdict)
     → record {

@@ -25,10 +25,19 @@ use Rattle.microscope.specs.declared.Finding.{Finding}
 use Rattle.microscope.specs.declared.Finding.the-variants.{Sound, Unsound}
 use Rattle.microscope.specs.Refusals.{SketchOutcome}
 use Rattle.store.specs.declared.LengthAnswer.{LengthAnswer}
-use Rattle.store.specs.declared.LoadAnswer.{LoadAnswer}
-use Rattle.store.specs.Refusals.{SaveOutcome, LoadOutcome}
+use Rattle.store.specs.Refusals.{SaveOutcome}
+use Rattle.codes.specs.declared.Watch.{Watch}
+use Rattle.codes.specs.declared.WatchAnswer.{WatchAnswer}
+use Rattle.codes.specs.declared.AskAnswer.{AskAnswer}
+use Rattle.codes.specs.Refusals.{SetOutcome, AskOutcome}
+use Rattle.service.specs.declared.ServiceAnswer.{ServiceAnswer}
+use Rattle.service.specs.Service.{ServiceOutcome}
 use Rattle.plain.specs.declared.PlainSketch.{PlainSketch}
 use Rattle.plain.specs.declared.PlainSettings.{PlainSettings}
+use Rattle.plain.specs.declared.PlainWatch.{PlainWatch}
+use Rattle.plain.specs.declared.PlainStart.{PlainStart}
+use Rattle.plain.specs.declared.PlainWatched.{PlainWatched}
+use Rattle.plain.specs.declared.PlainAsked.{PlainAsked}
 use Rattle.plain.specs.declared.PlainAnswer.{PlainAnswer}
 use Rattle.plain.specs.declared.PlainChange.{PlainChange}
 use Rattle.plain.specs.declared.PlainReading.{PlainReading}
@@ -62,25 +71,40 @@ plainWith k (TimeBased length epoch now) =
 abbrev pub plainOf : MicroCm → PlainSketch
 plainOf k = plainWith k (k .clock)
 
--- A FRESH START: the number, the index, and the sketch, none if the call is refused
-abbrev pub answerOf : PlainSketch → SketchAnswer → PlainAnswer
-answerOf s r =
+-- THE WATCHED CODES, number by number
+abbrev pub watchOf : PlainWatch → Watch
+watchOf w = record { count = w .count; rows = w .rows; reached = w .reached }
+
+abbrev pub plainWatch : Watch → PlainWatch
+plainWatch w = record { count = w .count; rows = w .rows; reached = w .reached }
+
+-- A FRESH START OR A LOAD: the number, the index, the sketch and no codes
+abbrev pub startOf : ServiceAnswer → PlainStart
+startOf r =
     record {
       number = numberOf (r .verdict);
-      draws = r .draws;
       index = indexOf (r .verdict);
-      sketch = whenAccepted (r .verdict) (plainOf (r .sketch)) s;
+      sketch = plainOf (r .service .sketch);
+      watch = plainWatch (r .service .watch);
     }
 
+pub record StartOutcome : Type 0 where
+  pub answer : PlainStart
+  pub grid : List ℕ
+
+abbrev pub startOutcome : PlainStart → List ℕ → StartOutcome
+startOutcome r g = record { answer = r; grid = g }
+
+abbrev pub startedOf : ServiceOutcome → StartOutcome
+startedOf o = startOutcome (startOf (o .answer)) (o .grid)
+
+-- THE OUTCOME of a call that changes a sketch
 pub record PlainOutcome : Type 0 where
   pub answer : PlainAnswer
   pub grid : List ℕ
 
 abbrev pub plainOutcome : PlainAnswer → List ℕ → PlainOutcome
 plainOutcome r g = record { answer = r; grid = g }
-
-abbrev pub outcomeOf : PlainSketch → SketchOutcome → PlainOutcome
-outcomeOf s o = plainOutcome (answerOf s (o .answer)) (o .grid)
 
 -- A CALL THAT CHANGES A SKETCH: if it is accepted the clock's reading and the random state are those that it left, and nothing else
 -- of the sketch is changed; if it is refused all is as it came
@@ -131,10 +155,6 @@ toldOf r = record { number = numberOf (r .verdict); draws = r .draws; index = in
 abbrev pub inPlace : PlainSettings → PlainChange → ℕ → ℕ → PlainAnswer
 inPlace m r reading state =
     record { number = r .number; draws = r .draws; index = r .index; sketch = sketchWith m reading state }
-
--- no sketch: what a fresh start or a load that was refused hands back
-abbrev pub noPlain : PlainSketch
-noPlain = record { rows = 0; cols = 0; t = 0; c = 0; kind = 0; length = 0; epoch = 0; reading = 0; state = 0 }
 
 -- READINGS
 abbrev pub readingOf : ReadingAnswer → PlainReading
@@ -201,17 +221,33 @@ plainSave r store = record { answer = r; store = store }
 abbrev pub saveOf : SaveOutcome → PlainSave
 saveOf o = plainSave (verdictOf (o .verdict)) (o .store)
 
-abbrev pub loadAnswerOf : LoadAnswer → PlainAnswer
-loadAnswerOf r =
-    record {
-      number = numberOf (r .verdict);
-      draws = 0;
-      index = indexOf (r .verdict);
-      sketch = whenAccepted (r .verdict) (plainOf (r .sketch)) noPlain;
-    }
+-- WATCHED CODES
+abbrev pub watchedOf : WatchAnswer → PlainWatched
+watchedOf r = record { number = numberOf (r .verdict); index = indexOf (r .verdict); watch = plainWatch (r .watch) }
 
-abbrev pub loadOf : LoadOutcome → PlainOutcome
-loadOf o = plainOutcome (loadAnswerOf (o .answer)) (o .grid)
+pub record PlainSet : Type 0 where
+  pub answer : PlainWatched
+  pub columns : List ℕ
+  pub limits : List ℕ
+
+abbrev pub plainSet : PlainWatched → List ℕ → List ℕ → PlainSet
+plainSet r columns limits = record { answer = r; columns = columns; limits = limits }
+
+abbrev pub setOf : SetOutcome → PlainSet
+setOf o = plainSet (watchedOf (o .answer)) (o .columns) (o .limits)
+
+abbrev pub askedOf : AskAnswer → PlainAsked
+askedOf r = record { number = numberOf (r .verdict); index = indexOf (r .verdict); listed = r .listed; watch = plainWatch (r .watch) }
+
+pub record PlainAsk : Type 0 where
+  pub answer : PlainAsked
+  pub list : List ℕ
+
+abbrev pub plainAsk : PlainAsked → List ℕ → PlainAsk
+plainAsk r list = record { answer = r; list = list }
+
+abbrev pub askOf : AskOutcome → PlainAsk
+askOf o = plainAsk (askedOf (o .answer)) (o .list)
 
 -- ONE CELL
 abbrev pub paramsOf : ℕ → ℕ → MicroParams

@@ -2,6 +2,9 @@
 use cell::CellAnswer;
 use cell::MicroParams;
 use clock::SubWindowClock;
+use codes::AskAnswer;
+use codes::Watch;
+use codes::WatchAnswer;
 use microscope::AuditAnswer;
 use microscope::Finding;
 use microscope::MicroCm;
@@ -9,10 +12,10 @@ use microscope::ReadingAnswer;
 use microscope::SketchAnswer;
 use refusal::Verdict;
 use rounding::Rounding;
-use store::LoadAnswer;
+use service::ServiceAnswer;
 ghost use mathlib.Core.Path.{_≡_};
 ghost use Rattle.refusal.specs.Refusals.{numberOf};
-ghost use Rattle.plain.specs.Edge.{clockOf, sketchOf, settingsOf, sketchWith, readingIn, readingAfter, stateAfter, toldOf, changedOf, inPlace, plainOf, answerOf, noPlain, readingOf, valueOf, figureOf, verdictOf, auditOf, loadAnswerOf, drawnOf};
+ghost use Rattle.plain.specs.Edge.{clockOf, sketchOf, settingsOf, sketchWith, readingIn, readingAfter, stateAfter, toldOf, changedOf, inPlace, plainOf, watchOf, plainWatch, startOf, watchedOf, askedOf, readingOf, valueOf, figureOf, verdictOf, auditOf, drawnOf};
 
 // A sketch as plain numbers. `kind` is 0 for a clock that counts items, 1 for one of time; `reading` is the items seen,
 // or the time now; `epoch` is looked at for a clock of time only.
@@ -48,6 +51,41 @@ pub struct PlainAnswer {
     pub index: usize,
     pub draws: u64,
     pub sketch: PlainSketch,
+}
+
+// The watched codes without their columns and limits, which stand in two arrays of the caller's: how many codes, the rows of
+// the sketch for which they were set, and a bit for each that was at its limit or above at the last asking.
+#[repr(C)]
+pub struct PlainWatch {
+    pub count: usize,
+    pub rows: usize,
+    pub reached: u64,
+}
+
+// What a fresh start or a load gives: the sketch, and no codes; all 0 if refused.
+#[repr(C)]
+pub struct PlainStart {
+    pub number: u64,
+    pub index: usize,
+    pub sketch: PlainSketch,
+    pub watch: PlainWatch,
+}
+
+// What setting a list of codes gives: the codes to go on with, as they came if the call was refused.
+#[repr(C)]
+pub struct PlainWatched {
+    pub number: u64,
+    pub index: usize,
+    pub watch: PlainWatch,
+}
+
+// What an asking gives: how many codes it listed, 0 if refused, and the codes to go on with, as they came if refused.
+#[repr(C)]
+pub struct PlainAsked {
+    pub number: u64,
+    pub index: usize,
+    pub listed: usize,
+    pub watch: PlainWatch,
 }
 
 // What a call tells that changes the reading and the random state where the caller keeps them.
@@ -230,19 +268,23 @@ fn of_sketch(sketch: MicroCm) -> PlainSketch
     }
 }
 
-pub fn none() -> PlainSketch
-    ensures { λ r. ⌜ r ≡ noPlain ⌝ }
+pub fn watch(plain: PlainWatch) -> Watch
+    ensures { λ r. ⌜ r ≡ watchOf plain ⌝ }
 {
-    PlainSketch {
-        rows: 0,
-        cols: 0,
-        t: 0,
-        c: 0,
-        kind: 0,
-        length: 0,
-        epoch: 0,
-        reading: 0,
-        state: 0,
+    Watch {
+        count: plain.count,
+        rows: plain.rows,
+        reached: plain.reached,
+    }
+}
+
+fn of_watch(watch: Watch) -> PlainWatch
+    ensures { λ r. ⌜ r ≡ plainWatch watch ⌝ }
+{
+    PlainWatch {
+        count: watch.count,
+        rows: watch.rows,
+        reached: watch.reached,
     }
 }
 
@@ -311,46 +353,44 @@ pub fn changed(before: PlainSketch, answer: SketchAnswer) -> PlainAnswer
     beside(change, settings(before), reading, state)
 }
 
-// A fresh start that was refused gives no sketch.
-pub fn answer(before: PlainSketch, answer: SketchAnswer) -> PlainAnswer
-    ensures { λ r. ⌜ r ≡ answerOf before answer ⌝ }
+// A start that was refused gives no sketch: every number of it is 0.
+pub fn started(answer: ServiceAnswer) -> PlainStart
+    ensures { λ r. ⌜ r ≡ startOf answer ⌝ }
 {
     let verdict = answer.verdict;
-    let sketch = answer.sketch;
-    if !verdict.accepted() {
-        return PlainAnswer {
-            number: number(verdict),
-            index: verdict.index(),
-            draws: answer.draws,
-            sketch: before,
-        };
-    }
-    PlainAnswer {
+    let service = answer.service;
+    let sketch = service.sketch;
+    let watch = service.watch;
+    PlainStart {
         number: number(verdict),
         index: verdict.index(),
-        draws: answer.draws,
         sketch: of_sketch(sketch),
+        watch: of_watch(watch),
     }
 }
 
-pub fn loaded(answer: LoadAnswer) -> PlainAnswer
-    ensures { λ r. ⌜ r ≡ loadAnswerOf answer ⌝ }
+pub fn watched(answer: WatchAnswer) -> PlainWatched
+    ensures { λ r. ⌜ r ≡ watchedOf answer ⌝ }
 {
     let verdict = answer.verdict;
-    let sketch = answer.sketch;
-    if !verdict.accepted() {
-        return PlainAnswer {
-            number: number(verdict),
-            index: verdict.index(),
-            draws: 0,
-            sketch: none(),
-        };
-    }
-    PlainAnswer {
+    let watch = answer.watch;
+    PlainWatched {
         number: number(verdict),
         index: verdict.index(),
-        draws: 0,
-        sketch: of_sketch(sketch),
+        watch: of_watch(watch),
+    }
+}
+
+pub fn asked(answer: AskAnswer) -> PlainAsked
+    ensures { λ r. ⌜ r ≡ askedOf answer ⌝ }
+{
+    let verdict = answer.verdict;
+    let watch = answer.watch;
+    PlainAsked {
+        number: number(verdict),
+        index: verdict.index(),
+        listed: answer.listed,
+        watch: of_watch(watch),
     }
 }
 

@@ -10,11 +10,8 @@ clock-requires c κs = search needs
 with-dimensions-requires : tie.Need-with-dimensions-requires
 with-dimensions-requires c κs = search needs
 
-none-requires : tie.Need-none-requires
-none-requires c κs = search needs
-
-answer-requires : tie.Need-answer-requires
-answer-requires c κs = search needs
+started-requires : tie.Need-started-requires
+started-requires c κs = search needs
 
 same-length : tie.Need-same-length
 same-length c = search needs
@@ -25,10 +22,4 @@ returns c = search (fresh-told, needs)
 pub microscope-new-spec : {M : Type 1} → statement M
 microscope-new-spec =
     tie.close
-    (tie.spec
-    clock-requires
-    with-dimensions-requires
-    none-requires
-    answer-requires
-    same-length
-    returns)
+    (tie.spec clock-requires with-dimensions-requires started-requires same-length returns)

@@ -7,8 +7,8 @@ use Rattle.capi.proofs.stores.microscope_load.Tie as tie
 load-requires : tie.Need-load-requires
 load-requires c κs = search needs
 
-loaded-requires : tie.Need-loaded-requires
-loaded-requires c κs = search needs
+started-requires : tie.Need-started-requires
+started-requires c κs = search needs
 
 same-length : tie.Need-same-length
 same-length c = search needs
@@ -17,4 +17,4 @@ returns : tie.Need-returns
 returns c = search (load-told, needs)
 
 pub microscope-load-spec : {M : Type 1} → statement M
-microscope-load-spec = tie.close (tie.spec load-requires loaded-requires same-length returns)
+microscope-load-spec = tie.close (tie.spec load-requires started-requires same-length returns)
