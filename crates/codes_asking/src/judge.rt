@@ -74,11 +74,12 @@ pub fn asking(sketch: MicroCm, watch: Watch, columns: &[u32], grid: &[u8], room:
     if count > 64 {
         return Verdict::Refused(19);
     }
+    let cells = sketch.rows * sketch.cols;
     if room < count {
         return Verdict::Refused(20);
     }
     let bad = least_bad(sketch, columns, count, grid);
-    if bad < sketch.rows * sketch.cols {
+    if bad < cells {
         return Verdict::Unsound(bad);
     }
     Verdict::Accepted

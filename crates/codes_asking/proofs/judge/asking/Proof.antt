@@ -22,14 +22,14 @@ returns-2 c = search (ask-foreign, needs)
 returns-3 : tie.Need-returns-3
 returns-3 c = search (ask-many, needs)
 
+mul-cells : tie.Need-mul-cells
+mul-cells c = record { fits = search (ask-cells, needs) }
+
 returns-4 : tie.Need-returns-4
 returns-4 c = search (ask-short, needs)
 
 least-bad-requires : tie.Need-least-bad-requires
-least-bad-requires c κs = record { ready = search (ask-ready, needs); few = search needs; long = search needs; below = held-below _ _ _ _ (c .before .before .before .kept-fit .ensures) (c .before .before .if2 .left) (c .before .if3 .left) }
-
-mul-if5 : tie.Need-mul-if5
-mul-if5 c = record { fits = search (ask-cells, needs) }
+least-bad-requires c κs = record { ready = search (ask-ready, needs); few = search needs; long = search needs; below = held-below _ _ _ _ (c .before .before .before .before .kept-fit .ensures) (c .before .before .before .if2 .left) (c .before .before .if3 .left) }
 
 returns-5 : tie.Need-returns-5
 returns-5 c = search (ask-unsound, needs)
@@ -47,8 +47,8 @@ asking-spec =
     kept-fit-requires
     returns-2
     returns-3
+    mul-cells
     returns-4
     least-bad-requires
-    mul-if5
     returns-5
     returns-6)
