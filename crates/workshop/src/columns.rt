@@ -1,6 +1,7 @@
 // A key: its columns, one for each row, parted by commas. The tallest sketch has 128 rows.
 use crate::numbers;
 use crate::numbers::Found;
+use crate::print;
 use crate::words;
 
 struct Progress {
@@ -61,10 +62,56 @@ pub fn taken(word: &[u8], key: &mut [u32]) -> usize {
     0
 }
 
+// The same behind columns that are there.
+pub fn taken_behind(word: &[u8], key: &mut [u32], at: usize) -> usize {
+    if at <= key.len() {
+        return taken(word, &mut key[at..]);
+    }
+    0
+}
+
+// The columns from `from` to `to`, and none where that is no part.
+pub fn part(columns: &[u32], from: usize, to: usize) -> &[u32] {
+    if to < from {
+        return &columns[0..0];
+    }
+    if columns.len() < to {
+        return &columns[0..0];
+    }
+    &columns[from..to]
+}
+
 // The first columns of the lent ones.
 pub fn first(key: &[u32], count: usize) -> &[u32] {
-    if key.len() < count {
-        return &key[0..0];
+    part(key, 0, count)
+}
+
+fn set(columns: &mut [u32], at: usize, column: u32) {
+    if at < columns.len() {
+        columns[at] = column;
     }
-    &key[0..count]
+}
+
+pub fn copy(to: &mut [u32], from: &[u32]) {
+    let mut i: usize = 0;
+    while i < from.len() {
+        set(to, i, from[i]);
+        i += 1;
+    }
+}
+
+fn tell_one(row: usize, column: u32) {
+    if row > 0 {
+        print::text(b",");
+    }
+    print::number(b"", column as u64);
+}
+
+// A key as a line has it.
+pub fn tell(key: &[u32]) {
+    let mut row: usize = 0;
+    while row < key.len() {
+        tell_one(row, key[row]);
+        row += 1;
+    }
 }

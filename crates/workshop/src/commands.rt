@@ -1,4 +1,5 @@
 // A line: which command it is, whether it has the words and the sketch that the command needs, and the command.
+use crate::asking;
 use crate::cases;
 use crate::files;
 use crate::fresh;
@@ -12,6 +13,7 @@ use crate::slots::Shelf;
 use crate::usage;
 use crate::usage::Kind;
 use crate::verdicts;
+use crate::watching;
 use crate::words;
 use microscope::Finding;
 use microscope::MicroCm;
@@ -104,24 +106,51 @@ fn work(kind: Kind, line: &[u8], grids: &mut [u8], room: &mut [u8], shelf: Shelf
 // The least number of words that a command has, its name among them.
 fn least(kind: Kind) -> usize {
     match kind {
-        Kind::Grid | Kind::Audit | Kind::Zoom | Kind::Dump => 2,
+        Kind::Grid | Kind::Audit | Kind::Zoom | Kind::Dump | Kind::Watch | Kind::Ask => 2,
         Kind::Updates | Kind::UpdateAt | Kind::Cell => 4,
         _ => 3,
     }
 }
 
-// `read` alone has a word that may be left out.
+// `read` and `ask` have a word that may be left out, and `watch` has as many as there are codes.
 fn words_fit(kind: Kind, count: usize) -> bool {
     if count == least(kind) {
         return true;
     }
-    if let Kind::Read = kind {
-        return count == 4;
+    match kind {
+        Kind::Read => count == 4,
+        Kind::Ask => count == 3,
+        Kind::Watch => count > 2,
+        _ => false,
     }
-    false
 }
 
-fn on_sketch(kind: Kind, line: &[u8], grids: &mut [u8], room: &mut [u8], shelf: Shelf) -> Shelf {
+// The commands on a sketch and its watched codes, and all others.
+fn watch_or_work(
+    kind: Kind,
+    line: &[u8],
+    grids: &mut [u8],
+    room: &mut [u8],
+    columns: &mut [u32; 32768],
+    limits: &mut [u64; 256],
+    shelf: Shelf,
+) -> Shelf {
+    match kind {
+        Kind::Watch => watching::watch(line, columns, limits, shelf),
+        Kind::Ask => asking::ask(line, &grids[..], &columns[..], &limits[..], shelf),
+        _ => work(kind, line, grids, room, shelf),
+    }
+}
+
+fn on_sketch(
+    kind: Kind,
+    line: &[u8],
+    grids: &mut [u8],
+    room: &mut [u8],
+    columns: &mut [u32; 32768],
+    limits: &mut [u64; 256],
+    shelf: Shelf,
+) -> Shelf {
     let place = slots::place(words::word(line, 1));
     if place > 3 || !words_fit(kind, words::count(line)) {
         usage::expected(kind);
@@ -135,11 +164,18 @@ fn on_sketch(kind: Kind, line: &[u8], grids: &mut [u8], room: &mut [u8], shelf: 
         usage::no_sketch(words::word(line, 1));
         return shelf;
     }
-    work(kind, line, grids, room, shelf)
+    watch_or_work(kind, line, grids, room, columns, limits, shelf)
 }
 
 // One line of the input.
-pub fn run(whole: &[u8], grids: &mut [u8], room: &mut [u8], shelf: Shelf) -> Shelf {
+pub fn run(
+    whole: &[u8],
+    grids: &mut [u8],
+    room: &mut [u8],
+    columns: &mut [u32; 32768],
+    limits: &mut [u64; 256],
+    shelf: Shelf,
+) -> Shelf {
     let line = words::before_comment(whole);
     let name = words::word(line, 0);
     if name.len() == 0 {
@@ -160,6 +196,6 @@ pub fn run(whole: &[u8], grids: &mut [u8], room: &mut [u8], shelf: Shelf) -> She
             usage::expected(kind);
             shelf
         }
-        _ => on_sketch(kind, line, grids, room, shelf),
+        _ => on_sketch(kind, line, grids, room, columns, limits, shelf),
     }
 }

@@ -9,7 +9,7 @@ use crate::words;
 use cell::MicroParams;
 use microscope::MicroCm;
 use refusal::Verdict;
-use store::LoadAnswer;
+use service::ServiceAnswer;
 
 fn failed(what: &[u8], name: &[u8]) {
     print::text(what);
@@ -155,11 +155,11 @@ fn size_in(store: &[u8]) -> usize {
     size as usize
 }
 
-fn load_in(place: usize, size: usize, grids: &mut [u8], store: &[u8]) -> LoadAnswer {
+fn load_in(place: usize, size: usize, grids: &mut [u8], store: &[u8]) -> ServiceAnswer {
     let span = slots::span_of(place, size, grids.len());
     let from = span.from;
     let to = span.to;
-    store::load(&mut grids[from..to], store)
+    service::load(&mut grids[from..to], store)
 }
 
 fn tell_loaded(sketch: MicroCm) {
@@ -175,13 +175,13 @@ fn load_store(store: &[u8], grids: &mut [u8], place: usize, shelf: Shelf) -> She
     let size = size_in(store);
     let answer = load_in(place, size, grids, store);
     let verdict = answer.verdict;
-    let sketch = answer.sketch;
+    let service = answer.service;
     if !verdict.accepted() {
         verdicts::refused(verdict);
         return shelf;
     }
-    tell_loaded(sketch);
-    shelf.with(place, Slot { sketch, size })
+    tell_loaded(service.sketch);
+    shelf.with(place, Slot::of(service, size))
 }
 
 // What was read of a file, and whether it ended there.
@@ -210,9 +210,8 @@ fn read_file(name: &[u8], room: &mut [u8]) -> Taken {
     Taken { count, whole }
 }
 
-pub fn load(line: &[u8], grids: &mut [u8], room: &mut [u8], shelf: Shelf) -> Shelf {
+fn load_taken(taken: Taken, line: &[u8], room: &[u8], grids: &mut [u8], shelf: Shelf) -> Shelf {
     let name = words::word(line, 2);
-    let taken = read_file(name, room);
     let got = taken.count;
     if got >= room.len() {
         failed(
@@ -226,5 +225,10 @@ pub fn load(line: &[u8], grids: &mut [u8], room: &mut [u8], shelf: Shelf) -> She
         return shelf;
     }
     let place = slots::place(words::word(line, 1));
-    load_store(words::part(&room[..], 0, got), grids, place, shelf)
+    load_store(words::part(room, 0, got), grids, place, shelf)
+}
+
+pub fn load(line: &[u8], grids: &mut [u8], room: &mut [u8], shelf: Shelf) -> Shelf {
+    let taken = read_file(words::word(line, 2), room);
+    load_taken(taken, line, &room[..], grids, shelf)
 }

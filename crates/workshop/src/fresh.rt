@@ -12,9 +12,9 @@ use crate::words;
 use cell::MicroLayout;
 use cell::MicroParams;
 use clock::SubWindowClock;
-use microscope::MicroCm;
-use microscope::SketchAnswer;
 use refusal::Verdict;
+use service::Service;
+use service::ServiceAnswer;
 
 // What a fresh start is given.
 struct Asked {
@@ -76,10 +76,10 @@ fn settings_of(line: &[u8], clock: SubWindowClock, seed: u64) -> Asked {
     }
 }
 
-fn started(asked: Asked, grid: &mut [u8]) -> SketchAnswer {
+fn started(asked: Asked, grid: &mut [u8]) -> ServiceAnswer {
     let params = asked.params;
     let clock = asked.clock;
-    MicroCm::with_dimensions(asked.rows, asked.cols, params, clock, asked.seed, grid)
+    Service::with_dimensions(asked.rows, asked.cols, params, clock, asked.seed, grid)
 }
 
 // A fresh start on no bytes: 6 stands for settings that are good.
@@ -101,24 +101,34 @@ pub fn size(rows: usize, cols: usize, params: MicroParams) -> u64 {
     numbers::product(cells, depth(params) as u64)
 }
 
-fn started_in(asked: Asked, place: usize, size: usize, grids: &mut [u8]) -> SketchAnswer {
+fn started_in(asked: Asked, place: usize, size: usize, grids: &mut [u8]) -> ServiceAnswer {
     let span = slots::span_of(place, size, grids.len());
     let from = span.from;
     let to = span.to;
     started(asked, &mut grids[from..to])
 }
 
-fn made(asked: Asked, place: usize, size: usize, grids: &mut [u8], shelf: Shelf) -> Shelf {
-    let answer = started_in(asked, place, size, grids);
+fn shelved(
+    answer: ServiceAnswer,
+    params: MicroParams,
+    place: usize,
+    size: usize,
+    shelf: Shelf,
+) -> Shelf {
     let verdict = answer.verdict;
     if !verdict.accepted() {
         verdicts::refused(verdict);
         return shelf;
     }
-    print::number(b"ok depth=", depth(asked.params) as u64);
+    print::number(b"ok depth=", depth(params) as u64);
     print::text(b"\n");
-    let sketch = answer.sketch;
-    shelf.with(place, Slot { sketch, size })
+    let service = answer.service;
+    shelf.with(place, Slot::of(service, size))
+}
+
+fn made(asked: Asked, place: usize, size: usize, grids: &mut [u8], shelf: Shelf) -> Shelf {
+    let answer = started_in(asked, place, size, grids);
+    shelved(answer, asked.params, place, size, shelf)
 }
 
 fn make(asked: Asked, place: usize, grids: &mut [u8], shelf: Shelf) -> Shelf {

@@ -15,7 +15,13 @@ struct Session {
     shelf: Shelf,
 }
 
-pub fn all(lines: &mut [u8], grids: &mut [u8], store: &mut [u8]) {
+pub fn all(
+    lines: &mut [u8],
+    grids: &mut [u8],
+    store: &mut [u8],
+    columns: &mut [u32; 32768],
+    limits: &mut [u64; 256],
+) {
     let mut session = Session {
         from: 0,
         to: 0,
@@ -26,16 +32,23 @@ pub fn all(lines: &mut [u8], grids: &mut [u8], store: &mut [u8]) {
     // Nothing says that the input ends, and a loop has to: so it counts down from what no input reaches.
     let mut turns = u64::MAX;
     while turns > 0 && session.more {
-        session = turn(lines, grids, store, session);
+        session = turn(lines, grids, store, columns, limits, session);
         turns -= 1;
     }
 }
 
 // The next line if a whole one is there, else more of the input.
-fn turn(lines: &mut [u8], grids: &mut [u8], store: &mut [u8], session: Session) -> Session {
+fn turn(
+    lines: &mut [u8],
+    grids: &mut [u8],
+    store: &mut [u8],
+    columns: &mut [u32; 32768],
+    limits: &mut [u64; 256],
+    session: Session,
+) -> Session {
     let end = words::find(lines, session.from, session.to, b'\n');
     if end < session.to {
-        return whole_line(lines, grids, store, session, end);
+        return whole_line(lines, grids, store, columns, limits, session, end);
     }
     if session.from > 0 {
         return moved_down(lines, session);
@@ -43,7 +56,7 @@ fn turn(lines: &mut [u8], grids: &mut [u8], store: &mut [u8], session: Session) 
     if session.to >= lines.len() {
         return too_long(session);
     }
-    refilled(lines, grids, store, session)
+    refilled(lines, grids, store, columns, limits, session)
 }
 
 // The rest of a line that was turned back is no line of its own.
@@ -52,24 +65,28 @@ fn answered(
     line: &[u8],
     grids: &mut [u8],
     store: &mut [u8],
+    columns: &mut [u32; 32768],
+    limits: &mut [u64; 256],
     shelf: Shelf,
 ) -> Shelf {
     if skipping {
         return shelf;
     }
-    commands::run(line, grids, store, shelf)
+    commands::run(line, grids, store, columns, limits, shelf)
 }
 
 fn whole_line(
     lines: &[u8],
     grids: &mut [u8],
     store: &mut [u8],
+    columns: &mut [u32; 32768],
+    limits: &mut [u64; 256],
     session: Session,
     end: usize,
 ) -> Session {
     let shelf = session.shelf;
     let line = words::part(lines, session.from, end);
-    let after = answered(session.skipping, line, grids, store, shelf);
+    let after = answered(session.skipping, line, grids, store, columns, limits, shelf);
     let stopped = print::stopped();
     Session {
         from: std::num::wrapping_add_usize(end, 1),
@@ -107,21 +124,44 @@ fn too_long(session: Session) -> Session {
     }
 }
 
-// More of the input behind what is there. At its end the last line may have no line end.
-fn refilled(lines: &mut [u8], grids: &mut [u8], store: &mut [u8], session: Session) -> Session {
-    let to = session.to;
-    let got = read_behind(lines, to);
+// More of the input behind what is there.
+fn refilled(
+    lines: &mut [u8],
+    grids: &mut [u8],
+    store: &mut [u8],
+    columns: &mut [u32; 32768],
+    limits: &mut [u64; 256],
+    session: Session,
+) -> Session {
+    let got = read_behind(lines, session.to);
     if got > 0 {
-        let shelf = session.shelf;
-        return Session {
-            from: 0,
-            to: std::num::wrapping_add_usize(to, got),
-            skipping: session.skipping,
-            more: true,
-            shelf,
-        };
+        return longer(session, got);
     }
-    ended(whole_line(lines, grids, store, session, to))
+    last_line(&lines[..], grids, store, columns, limits, session)
+}
+
+fn longer(session: Session, got: usize) -> Session {
+    let shelf = session.shelf;
+    Session {
+        from: 0,
+        to: std::num::wrapping_add_usize(session.to, got),
+        skipping: session.skipping,
+        more: true,
+        shelf,
+    }
+}
+
+// The last line may have no line end.
+fn last_line(
+    lines: &[u8],
+    grids: &mut [u8],
+    store: &mut [u8],
+    columns: &mut [u32; 32768],
+    limits: &mut [u64; 256],
+    session: Session,
+) -> Session {
+    let end = session.to;
+    ended(whole_line(lines, grids, store, columns, limits, session, end))
 }
 
 fn read_behind(lines: &mut [u8], to: usize) -> usize {

@@ -2,6 +2,7 @@
 // commands; the file `stdin` beside this folder is a tour of them.
 //
 // It holds up to four sketches, a to d, and does nothing to them but by the public calls of the crates below it.
+mod asking;
 mod cases;
 mod columns;
 mod commands;
@@ -10,6 +11,9 @@ mod floats;
 mod fresh;
 mod input;
 mod items;
+mod kept;
+mod limits;
+mod lists;
 mod merge;
 mod numbers;
 mod pictures;
@@ -18,6 +22,7 @@ mod readings;
 mod slots;
 mod usage;
 mod verdicts;
+mod watching;
 mod words;
 
 fn main() {
@@ -27,5 +32,14 @@ fn main() {
     let mut grids = [0u8; 4194304];
     // The store of a grid of 1 MiB has 1,065,984 bytes; the one byte more shows a file that is longer.
     let mut store = [0u8; 1065985];
-    input::all(&mut lines, &mut grids, &mut store);
+    // The watched codes of a to d: 8,192 columns and 64 limits each, as the core keeps them.
+    let mut columns = [0u32; 32768];
+    let mut limits = [0u64; 256];
+    input::all(
+        &mut lines,
+        &mut grids,
+        &mut store,
+        &mut columns,
+        &mut limits,
+    );
 }

@@ -1,15 +1,19 @@
-// The sketches a to d. The grid of each stands in its own quarter of one lent buffer.
+// The sketches a to d. The grid of each stands in its own quarter of one lent buffer, and so do the columns and the limits of
+// its watched codes.
 use crate::words;
 use clock::SubWindowClock;
+use codes::Watch;
 use microscope::MicroCm;
+use service::Service;
 ghost use Prim.Native.Nat.{_≤_};
 
 // The most bytes that a grid here may have.
 pub const LIMIT: usize = 1048576;
 
-// A sketch and the bytes of its grid: 0 where no sketch is.
+// A sketch, its watched codes and the bytes of its grid: 0 where no sketch is.
 pub struct Slot {
     pub sketch: MicroCm,
+    pub watch: Watch,
     pub size: usize,
 }
 
@@ -35,27 +39,28 @@ pub fn place(word: &[u8]) -> usize {
     }
 }
 
-// From where to where a grid stands among the grids.
+// From where to where a place's part stands among the parts of all.
 pub struct Span {
     pub from: usize,
     pub to: usize,
 }
 
-fn start(place: usize) -> usize {
+// Where a place's part starts, if each has so much room.
+fn start(place: usize, room: usize) -> usize {
+    let two = std::num::wrapping_add_usize(room, room);
     match place {
         0 => 0,
-        1 => LIMIT,
-        2 => 2 * LIMIT,
-        _ => 3 * LIMIT,
+        1 => room,
+        2 => two,
+        _ => std::num::wrapping_add_usize(two, room),
     }
 }
 
-// Where a place's grid of so many bytes stands among grids of `length` bytes; nowhere if it did not fit, and then every call
-// would refuse it by 6.
-pub fn span_of(place: usize, size: usize, length: usize) -> Span
+// Where so much of a place's room stands among `length`; nowhere if it did not fit.
+pub fn part_of(place: usize, room: usize, size: usize, length: usize) -> Span
     ensures { λ r. ⌜ (r .from ≤ r .to) × (r .to ≤ length) ⌝ }
 {
-    let from = start(place);
+    let from = start(place, room);
     if length < from {
         return Span { from: 0, to: 0 };
     }
@@ -66,6 +71,14 @@ pub fn span_of(place: usize, size: usize, length: usize) -> Span
         from,
         to: from + size,
     }
+}
+
+// Where a place's grid of so many bytes stands among grids of `length` bytes; nowhere if it did not fit, and then every call
+// would refuse it by 6.
+pub fn span_of(place: usize, size: usize, length: usize) -> Span
+    ensures { λ r. ⌜ (r .from ≤ r .to) × (r .to ≤ length) ⌝ }
+{
+    part_of(place, LIMIT, size, length)
 }
 
 pub fn grid(grids: &[u8], place: usize, size: usize) -> &[u8] {
@@ -85,9 +98,22 @@ pub fn moment(clock: SubWindowClock) -> u64 {
 fn empty() -> Slot {
     let mut grid = [0u8; 1];
     let bytes = [0u8; 1];
-    let answer = store::load(&mut grid[0..0], &bytes[0..0]);
-    let sketch = answer.sketch;
-    Slot { sketch, size: 0 }
+    let answer = service::load(&mut grid[0..0], &bytes[0..0]);
+    let service = answer.service;
+    Slot::of(service, 0)
+}
+
+impl Slot {
+    // What a fresh start or a load gave, over a grid of so many bytes.
+    pub fn of(service: Service, size: usize) -> Slot {
+        let sketch = service.sketch;
+        let watch = service.watch;
+        Slot {
+            sketch,
+            watch,
+            size,
+        }
+    }
 }
 
 impl Shelf {
@@ -124,13 +150,29 @@ impl Shelf {
         }
     }
 
-    // The same place and grid, with the sketch that a call gave back.
+    // The same place, grid and codes, with the sketch that a call gave back.
     pub fn with_sketch(self, place: usize, sketch: MicroCm) -> Shelf {
         let slot = self.get(place);
+        let watch = slot.watch;
         self.with(
             place,
             Slot {
                 sketch,
+                watch,
+                size: slot.size,
+            },
+        )
+    }
+
+    // The same place, grid and sketch, with the codes that a call gave back.
+    pub fn with_watch(self, place: usize, watch: Watch) -> Shelf {
+        let slot = self.get(place);
+        let sketch = slot.sketch;
+        self.with(
+            place,
+            Slot {
+                sketch,
+                watch,
                 size: slot.size,
             },
         )

@@ -17,6 +17,8 @@ pub enum Kind {
     Save,
     Load,
     Dump,
+    Watch,
+    Ask,
     SetClock,
     SetState,
     SetGrid,
@@ -65,6 +67,16 @@ fn reading(name: &[u8]) -> Kind {
     }
     if check::same(name, b"dump") {
         return Kind::Dump;
+    }
+    watching(name)
+}
+
+fn watching(name: &[u8]) -> Kind {
+    if check::same(name, b"watch") {
+        return Kind::Watch;
+    }
+    if check::same(name, b"ask") {
+        return Kind::Ask;
     }
     making(name)
 }
@@ -119,6 +131,16 @@ fn reading_form(kind: Kind) {
         Kind::Audit => print::text(b"audit ID"),
         Kind::Zoom => print::text(b"zoom ID"),
         Kind::Dump => print::text(b"dump ID"),
+        _ => watching_form(kind),
+    }
+}
+
+fn watching_form(kind: Kind) {
+    match kind {
+        Kind::Watch => print::text(
+            b"watch ID COL,COL,..:LIMIT .., a word for each code, or watch ID for no codes",
+        ),
+        Kind::Ask => print::text(b"ask ID, or ask ID ROOM with a list of ROOM bytes, 0 to 64"),
         _ => making_form(kind),
     }
 }
@@ -173,6 +195,8 @@ pub fn help() {
     line(Kind::Audit);
     line(Kind::Zoom);
     line(Kind::Dump);
+    line(Kind::Watch);
+    line(Kind::Ask);
     line(Kind::Save);
     line(Kind::Load);
     line(Kind::SetClock);

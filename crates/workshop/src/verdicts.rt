@@ -1,4 +1,4 @@
-// Document 01, "Turning a call back", in words.
+// Document 01, "Turning a call back", and what document 02 adds to its table, in words.
 use crate::print;
 use refusal::Verdict;
 
@@ -30,7 +30,9 @@ fn meaning(number: u8) {
         18 => print::text(
             b"the store's form or clock kind is unknown, or a byte that must be 0 is not",
         ),
-        _ => print::text(b"a number that document 01 does not have"),
+        19 => print::text(b"more than 64 codes"),
+        20 => print::text(b"the list lent is shorter than the number of codes"),
+        _ => print::text(b"a number that no document has"),
     }
 }
 

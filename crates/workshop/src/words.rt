@@ -82,11 +82,13 @@ fn past(line: &[u8], from: usize, blanks: bool) -> usize {
     at
 }
 
-fn next_start(line: &[u8], start: usize) -> usize {
+// Where the word behind the one that starts here starts; the line's end if there is none.
+pub fn next_start(line: &[u8], start: usize) -> usize {
     past(line, past(line, start, false), true)
 }
 
-fn start_of(line: &[u8], number: usize) -> usize {
+// Where the word of this number starts.
+pub fn start_of(line: &[u8], number: usize) -> usize {
     let mut at = past(line, 0, true);
     let mut left = number;
     while left > 0 {
@@ -96,10 +98,14 @@ fn start_of(line: &[u8], number: usize) -> usize {
     at
 }
 
+// The word that starts here.
+pub fn word_at(line: &[u8], from: usize) -> &[u8] {
+    part(line, from, past(line, from, false))
+}
+
 // The word of this number; 0 is the first.
 pub fn word(line: &[u8], number: usize) -> &[u8] {
-    let from = start_of(line, number);
-    part(line, from, past(line, from, false))
+    word_at(line, start_of(line, number))
 }
 
 // What stands from the word of this number to the end.
@@ -107,7 +113,7 @@ pub fn rest(line: &[u8], number: usize) -> &[u8] {
     part(line, start_of(line, number), line.len())
 }
 
-// How many words the line has; 16 stands for more too, as no command has so many.
+// How many words the line has; 16 stands for more too: only `watch` has so many, and it counts its own.
 pub fn count(line: &[u8]) -> usize {
     let mut at = past(line, 0, true);
     let mut words: usize = 0;

@@ -6,10 +6,10 @@ use Rattle.workshop.proofs.input.all.Statement.{statement}
 use Rattle.workshop.proofs.input.all.Tie as tie
 
 abbrev Inv-loop : tie.InvT-loop
-Inv-loop lines₀ grids₀ store₀ session₀ turns₀ lines grids store session turns = (length lines ≡ length lines₀) × (length grids ≡ length grids₀) × (length store ≡ length store₀)
+Inv-loop lines₀ grids₀ store₀ columns₀ limits₀ session₀ turns₀ lines grids store columns limits session turns = (length lines ≡ length lines₀) × (length grids ≡ length grids₀) × (length store ≡ length store₀)
 
 abbrev μ-loop : tie.MeasureT-loop
-μ-loop lines₀ grids₀ store₀ session₀ turns₀ lines grids store session turns = turns
+μ-loop lines₀ grids₀ store₀ columns₀ limits₀ session₀ turns₀ lines grids store columns limits session turns = turns
 
 new-requires : tie.Need-new-requires Inv-loop μ-loop
 new-requires c κs = search needs
