@@ -93,9 +93,10 @@ static void raise_peaks(const struct counter *counter, uint64_t peaks[CODE_COUNT
     }
 }
 
-static void go_on(struct counter *counter, microscope_answer answer, const char *call) {
-    accepted(answer.number, call);
-    counter->sketch = answer.sketch;
+/* What a fresh start or a load gave. It watches no codes; examples/limits.c does. */
+static void begin(struct counter *counter, microscope_start start, const char *call) {
+    accepted(start.number, call);
+    counter->sketch = start.sketch;
 }
 
 static void count(struct counter *counter, uint64_t peaks[CODE_COUNT]) {
@@ -111,7 +112,9 @@ static void count(struct counter *counter, uint64_t peaks[CODE_COUNT]) {
             raise_peaks(counter, peaks);
         }
     }
-    go_on(counter, microscope_advance_to(counter->sketch, READING_AT, counter->grid, GRID_BYTES), "advance_to");
+    microscope_answer answer = microscope_advance_to(counter->sketch, READING_AT, counter->grid, GRID_BYTES);
+    accepted(answer.number, "advance_to");
+    counter->sketch = answer.sketch;
     raise_peaks(counter, peaks);
 }
 
@@ -177,7 +180,7 @@ int main(int argc, char **argv) {
         return 1;
     }
 
-    go_on(&counter,
+    begin(&counter,
           microscope_new(ROWS, COLS, T, C, MICROSCOPE_TIME, MINUTE, EPOCH, SEED, counter.grid, GRID_BYTES), "new");
     count(&counter, peaks);
     printf("minute %" PRIu64 "\n", sub_window(&counter.sketch));
@@ -185,7 +188,7 @@ int main(int argc, char **argv) {
 
     write_store(argv[1], &counter);
     size_t length = read_store(argv[1], store);
-    go_on(&again, microscope_load(again.grid, GRID_BYTES, store, length), "load");
+    begin(&again, microscope_load(again.grid, GRID_BYTES, store, length), "load");
     print_figures(&again, peaks);
 
     store[700] ^= 1;

@@ -16,20 +16,23 @@
  * all of them only read. A sketch is 64 bytes that go in and come out by value, and a grid of bytes that is lent for
  * the length of a call. A call that may change the sketch gives the sketch to go on with: keep it, with its grid, in
  * place of the old one. Of a sketch only the clock's reading and the random state ever change; the calls that end in
- * _in_place change these two where the caller keeps them, and are the quicker ones.
+ * _in_place change these two where the caller keeps them, and are the quicker ones. A caller that watches codes keeps,
+ * beside the sketch, 24 bytes that go in and come out by value too, and two arrays of fixed size that are lent.
  *
- * LENDING. Bytes and columns are lent as an address and a length, in that order; lengths of bytes are in bytes, the
- * length of a key is in columns. The address must not be NULL, not even with length 0, and all of the length must be
- * there (writable, if the pointer is not to const). What a call writes must not overlap with anything else it is
- * lent: to merge a sketch with itself, lend a copy of its grid. Columns must be aligned as uint32_t is; bytes need no
- * alignment. Within these rules there is no argument on which a call fails to answer: any sketch, any bytes, any
- * numbers.
+ * LENDING. Bytes, columns and limits are lent as an address and a length, in that order; lengths of bytes are in bytes,
+ * those of columns in columns, those of limits in limits. An array of fixed size is lent as an address alone. No
+ * address may be NULL, not even with length 0, and all of the length or array must be there (writable, if it is not
+ * const). What a call writes must not overlap with anything else it is lent: to merge a sketch with itself, lend a copy
+ * of its grid. Columns must be aligned as uint32_t is, limits as uint64_t; bytes need no alignment. Within these rules
+ * there is no argument on which a call fails to answer: any sketch, any codes, any bytes, any numbers.
  *
  * STACK. A merge takes about 17 KB of stack, of which 16 are its table of sums; every other call less than 4 KB.
  * (Seen in the machine code, not proved.)
  *
  * REFUSALS. Every answer carries a number: 0 if the call was accepted, else why it was refused, and then every byte
- * lent is as it was. If more than one number applies it is the lowest (a load has an order of its own: see there).
+ * lent is as it was. If more than one number applies it is the one that comes first in this order: 1 to 7, 19, 20, 8 to
+ * 18. So it is the lowest, but that 19 and 20, which are newer, rank by their place: after 7, before 8 and 14. A load
+ * has an order of its own: see there.
  */
 #ifndef MICROSCOPE_H
 #define MICROSCOPE_H
@@ -61,13 +64,21 @@ enum {
     MICROSCOPE_DIVISOR = 15,     /* a divisor of 0: the core's own calls only, none below gives it */
     MICROSCOPE_STORE_LENGTH = 16, /* a store is not the exact length */
     MICROSCOPE_BLOCK = 17,       /* a block's check or number: the store is damaged */
-    MICROSCOPE_FORM = 18         /* not a store of this form: the form's number, the clock's kind, or a byte that must be 0 */
+    MICROSCOPE_FORM = 18,        /* not a store of this form: the form's number, the clock's kind, or a byte that must be 0 */
+    MICROSCOPE_CODES = 19,       /* more than 64 codes; ranks after 7 */
+    MICROSCOPE_LIST = 20         /* the list lent is shorter than the number of codes; ranks after 19 and before 8 */
 };
 
 /* Kinds of clock. */
 enum {
     MICROSCOPE_ITEMS = 0, /* a sub-window is `length` items */
     MICROSCOPE_TIME = 1   /* a sub-window is `length` units of time */
+};
+
+/* Watched codes: the sizes of the two arrays that a caller keeps for them. */
+enum {
+    MICROSCOPE_MOST_CODES = 64,    /* limits: one for each code */
+    MICROSCOPE_KEPT_COLUMNS = 8192 /* columns: one a row for each code; no sketch has more than 128 rows */
 };
 
 /*
@@ -97,6 +108,24 @@ typedef struct {
     uint64_t length;
     uint64_t epoch;
 } microscope_settings;
+
+/*
+ * Watched codes without their columns and limits. microscope_new and microscope_load give one with no codes;
+ * microscope_set_codes and microscope_ask take one and give the one to go on with. No other call looks at it.
+ */
+typedef struct {
+    size_t count;     /* codes; 0: none */
+    size_t rows;      /* of the sketch for which they were set */
+    uint64_t reached; /* code i was at its limit or above at the last asking: the bit of value 2^i */
+} microscope_watch;
+
+/* What a fresh start or a load gives; sketch and watch are all 0 if refused. */
+typedef struct {
+    uint64_t number;
+    size_t index;             /* with 14, else 0 */
+    microscope_sketch sketch; /* to go on with */
+    microscope_watch watch;   /* no codes: to go on with in place of one from before, which must not be used on */
+} microscope_start;
 
 /* What a call that may change the sketch gives. */
 typedef struct {
@@ -156,6 +185,21 @@ typedef struct {
     size_t index;
 } microscope_found;
 
+/* What setting codes gives. */
+typedef struct {
+    uint64_t number;
+    size_t index;           /* 0: no cell is judged */
+    microscope_watch watch; /* to go on with; as it came if refused */
+} microscope_watched;
+
+/* What an asking gives beside the bytes of its list. */
+typedef struct {
+    uint64_t number;
+    size_t index;           /* with 14, else 0 */
+    size_t listed;          /* codes on the list; 0 if refused */
+    microscope_watch watch; /* to go on with; as it came if refused */
+} microscope_asked;
+
 /* What a call that may change one cell gives. */
 typedef struct {
     uint64_t number;
@@ -169,10 +213,10 @@ typedef struct {
 /*
  * A fresh sketch of these settings. The grid must have rows x cols x microscope_depth(t, c) bytes; every one is
  * written 0. Any seed will do: the same seed and calls give the same bytes. `epoch` is for a clock of time only; 0 comes
- * out for one of items. If refused the sketch is all 0.
+ * out for one of items.
  */
-microscope_answer microscope_new(size_t rows, size_t cols, size_t t, uint32_t c, uint32_t kind, uint64_t length,
-                                 uint64_t epoch, uint64_t seed, uint8_t *grid, size_t grid_bytes);
+microscope_start microscope_new(size_t rows, size_t cols, size_t t, uint32_t c, uint32_t kind, uint64_t length,
+                                uint64_t epoch, uint64_t seed, uint8_t *grid, size_t grid_bytes);
 
 /* One item, on a clock of items. Every `length` items the whole grid is gone through. */
 microscope_answer microscope_update(microscope_sketch sketch, const uint32_t *key, size_t columns, uint8_t *grid,
@@ -267,9 +311,51 @@ microscope_verdict microscope_save(uint8_t *store, size_t store_bytes, microscop
  * The sketch of a store, and its grid, whose length must be that of the stored one: for a store that was saved by
  * another program, rows, cols, t and c stand in it as 4 bytes each, low byte first, at 8, 12, 16 and 20.
  * The numbers are tried in this order: 16 (empty, or no multiple of 512), 17, 18, 1 to 5, 16 (not the exact length),
- * 18 (behind the grid), 6, 14. If refused the sketch is all 0.
+ * 18 (behind the grid), 6, 14. No codes are in a store.
  */
-microscope_answer microscope_load(uint8_t *grid, size_t grid_bytes, const uint8_t *store, size_t store_bytes);
+microscope_start microscope_load(uint8_t *grid, size_t grid_bytes, const uint8_t *store, size_t store_bytes);
+
+/*
+ * ---- watched codes: which of them have newly reached their limit ----
+ *
+ * A code is a key with a limit. What a maker keeps for the codes of one sketch: a microscope_watch, and
+ *
+ *     uint32_t kept_columns[MICROSCOPE_KEPT_COLUMNS];    32 KiB
+ *     uint64_t kept_limits[MICROSCOPE_MOST_CODES];       512 bytes
+ *
+ * of this size whatever the sketch. Only microscope_set_codes writes the two arrays, and the caller must not while the
+ * codes are watched; nothing need stand in them before. Items, time that passes and merges leave the codes as they are.
+ * A fresh start and a load give a watch with no codes, which takes the place of the old one. The arrays may be used on.
+ * The old watch must not: it says what was found in another sketch, and no call can tell.
+ */
+
+/*
+ * Watches these codes from now on, in place of those before: `columns` are their keys, one code behind another, and
+ * `limits` their limits in items, one for each code. No codes is a list too, and the same code may stand twice. Until
+ * the first asking every code counts as below its limit. No grid is lent and no cell judged.
+ * Refused by 1 to 5, 7 (not one column a row for each code, or one that is not below cols; of all codes given, also
+ * past the 64th), 19, and then codes and arrays are as they were. To set kept codes anew lend a copy of them.
+ */
+microscope_watched microscope_set_codes(microscope_sketch sketch, microscope_watch watch, const uint32_t *columns,
+                                        size_t column_count, const uint64_t *limits, size_t limit_count,
+                                        uint32_t kept_columns[MICROSCOPE_KEPT_COLUMNS],
+                                        uint64_t kept_limits[MICROSCOPE_MOST_CODES]);
+
+/*
+ * Lists every code that is at its limit or above, by the `over_items` that a reading of it gives, and was below at the
+ * asking before, or is asked after for the first time since it was set. A limit of 0 is reached at the first asking.
+ * The list gets the codes' indices, from 0, a byte each and ascending, from its start; `listed` says how many, and the
+ * bytes behind them stay. It must have `count` bytes or more, however few are listed. The grid must be that of the
+ * sketch for which the codes were set, as it stands now; it is only read.
+ * Refused by 1 to 6, 7 (codes that do not go with this sketch: set for other rows, or a column not below cols; no codes
+ * go with any), 19 (a count that no setting gives; for 7 the first 64 are then looked at), 20, and 14 over the cells of
+ * all codes: `index` is the smallest of all their unsound ones. A refused asking is no asking: the next one is compared
+ * with the last that was accepted.
+ */
+microscope_asked microscope_ask(microscope_sketch sketch, microscope_watch watch,
+                                const uint32_t kept_columns[MICROSCOPE_KEPT_COLUMNS],
+                                const uint64_t kept_limits[MICROSCOPE_MOST_CODES], const uint8_t *grid,
+                                size_t grid_bytes, uint8_t *list, size_t list_bytes);
 
 /* ---- one cell, for teaching and test: t + 2 pixels, the zoom, the shutter (4 bytes, low byte first), pad bytes ---- */
 
@@ -338,6 +424,17 @@ MICROSCOPE_AT(microscope_settings, kind, 28);
 MICROSCOPE_AT(microscope_settings, length, 32);
 MICROSCOPE_AT(microscope_settings, epoch, 40);
 
+MICROSCOPE_ASSERT(sizeof(microscope_watch) == 24);
+MICROSCOPE_AT(microscope_watch, count, 0);
+MICROSCOPE_AT(microscope_watch, rows, 8);
+MICROSCOPE_AT(microscope_watch, reached, 16);
+
+MICROSCOPE_ASSERT(sizeof(microscope_start) == 104);
+MICROSCOPE_AT(microscope_start, number, 0);
+MICROSCOPE_AT(microscope_start, index, 8);
+MICROSCOPE_AT(microscope_start, sketch, 16);
+MICROSCOPE_AT(microscope_start, watch, 80);
+
 MICROSCOPE_ASSERT(sizeof(microscope_change) == 24);
 MICROSCOPE_AT(microscope_change, number, 0);
 MICROSCOPE_AT(microscope_change, index, 8);
@@ -377,6 +474,17 @@ MICROSCOPE_ASSERT(sizeof(microscope_found) == 24);
 MICROSCOPE_AT(microscope_found, number, 0);
 MICROSCOPE_AT(microscope_found, unsound, 8);
 MICROSCOPE_AT(microscope_found, index, 16);
+
+MICROSCOPE_ASSERT(sizeof(microscope_watched) == 40);
+MICROSCOPE_AT(microscope_watched, number, 0);
+MICROSCOPE_AT(microscope_watched, index, 8);
+MICROSCOPE_AT(microscope_watched, watch, 16);
+
+MICROSCOPE_ASSERT(sizeof(microscope_asked) == 48);
+MICROSCOPE_AT(microscope_asked, number, 0);
+MICROSCOPE_AT(microscope_asked, index, 8);
+MICROSCOPE_AT(microscope_asked, listed, 16);
+MICROSCOPE_AT(microscope_asked, watch, 24);
 
 MICROSCOPE_ASSERT(sizeof(microscope_drawn) == 32);
 MICROSCOPE_AT(microscope_drawn, number, 0);

@@ -31,7 +31,7 @@ pub use common::structures::vector3d::Vector3D;
 pub use standins::{Columns as DefaultXxHasher, DataInput, SketchHasher, SmallVec, analytics};
 
 use choice::Choice;
-use ours::Ours;
+use ours::{Codes, Ours};
 use sketches::microscope::cell::reach;
 use sketches::microscope::{MicroCm, MicroParams, SubWindowClock};
 use std::hint::black_box;
@@ -179,16 +179,22 @@ fn crossings(what: &str, shape: Shape, aim: &str) {
     told(what, shape, figures, aim);
 }
 
-fn readings(what: &str, shape: Shape, aim: &str) {
+/// One that was filled and whose clock has gone on, so that every figure adds up a whole window.
+fn aged(shape: Shape) -> (Ours, Theirs) {
     let (mut ours, mut theirs) = filled(shape, 100_000);
     let past = 3 * shape.t as u64 * shape.length + shape.length / 3;
     for time in (1..=3 * shape.t as u64).map(|n| n * shape.length).chain([past]) {
         ours.advance_to(time);
         theirs.advance_to(time);
     }
+    (ours, theirs)
+}
+
+fn readings(what: &str, shape: Shape, aim: &str) {
+    let (ours, theirs) = aged(shape);
     let keys = shape.keys(Keys::Skewed, 1_000);
     for key in &keys {
-        assert_eq!(ours.estimate(&key.columns).to_bits(), theirs.estimate(&key.packed).to_bits(), "the figures differ");
+        assert_eq!(ours.estimate(&key.columns).linear.to_bits(), theirs.estimate(&key.packed).to_bits(), "the figures differ");
     }
     let figures = timed(
         keys.len() as u64,
@@ -226,6 +232,52 @@ fn alone(shape: Shape) {
     told("load", shape, timed(1, || clocked(|| ours.load(&store)), None), "");
 }
 
+/// So many codes, every other one at its limit; set, and with their keys.
+fn watched(ours: &Ours, shape: Shape, count: u64) -> (Codes, Vec<Key>) {
+    let keys: Vec<Key> = (0..count).map(|seed| shape.key(seed)).collect();
+    let limits: Vec<u64> = (0..).zip(&keys).map(|(code, key)| ours.estimate(&key.columns).over_items + code % 2).collect();
+    let mut codes = Codes::none();
+    ours.set_codes(&mut codes, &columns(&keys), &limits);
+    (codes, keys)
+}
+
+/// Those of one code behind those of another.
+fn columns(keys: &[Key]) -> Vec<u32> {
+    keys.iter().flat_map(|key| key.columns.clone()).collect()
+}
+
+fn settings(what: &str, ours: &Ours, shape: Shape, count: u64) {
+    let (mut codes, keys) = watched(ours, shape, count);
+    let (columns, limits) = (columns(&keys), vec![1; keys.len()]);
+    let calls = 1_000;
+    let figures = timed(calls, || clocked(|| (0..calls).for_each(|_| ours.set_codes(&mut codes, &columns, &limits))), None);
+    told(what, shape, figures, "");
+}
+
+/// Beside as many readings of ours: the Rust has no codes.
+fn askings(what: &str, ours: &Ours, shape: Shape, count: u64, aim: &str) {
+    let (mut codes, keys) = watched(ours, shape, count);
+    let mut list = vec![0; keys.len()];
+    assert_eq!(ours.ask(&mut codes, &mut list), keys.len().div_ceil(2), "the codes listed differ");
+    let calls = 64_000 / count;
+    let figures = timed(
+        calls,
+        || clocked(|| (0..calls).for_each(|_| { black_box(ours.ask(&mut codes, &mut list)); })),
+        Some(&mut || clocked(|| (0..calls).for_each(|_| keys.iter().for_each(|key| { black_box(ours.estimate(&key.columns)); })))),
+    );
+    told(what, shape, figures, aim);
+}
+
+/// Watched codes in a table of their own.
+fn codes(shape: Shape) {
+    println!("\n| call | grid | ours, ns | as many readings of ours, ns | ratio | aim |");
+    println!("|---|---|---|---|---|---|");
+    let (ours, _) = aged(shape);
+    settings("setting 64 codes", &ours, shape, 64);
+    askings("asking, one code", &ours, shape, 1, "");
+    askings("asking, 64 codes", &ours, shape, 64, "1.1");
+}
+
 fn main() {
     println!("| call | grid | ours, ns | the Rust, ns | ratio | aim |");
     println!("|---|---|---|---|---|---|");
@@ -247,4 +299,5 @@ fn main() {
         merges("merge", shape, "");
         alone(shape);
     }
+    codes(shape);
 }

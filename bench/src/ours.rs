@@ -42,6 +42,37 @@ pub struct Answer {
 }
 
 #[repr(C)]
+#[derive(Clone, Copy)]
+pub struct Watch {
+    pub count: usize,
+    pub rows: usize,
+    pub reached: u64,
+}
+
+#[repr(C)]
+pub struct Start {
+    pub number: u64,
+    pub index: usize,
+    pub sketch: Sketch,
+    pub watch: Watch,
+}
+
+#[repr(C)]
+pub struct Watched {
+    pub number: u64,
+    pub index: usize,
+    pub watch: Watch,
+}
+
+#[repr(C)]
+pub struct Asked {
+    pub number: u64,
+    pub index: usize,
+    pub listed: usize,
+    pub watch: Watch,
+}
+
+#[repr(C)]
 pub struct Reading {
     pub number: u64,
     pub index: usize,
@@ -74,7 +105,7 @@ pub struct Audit {
 }
 
 unsafe extern "C" {
-    fn microscope_new(rows: usize, cols: usize, t: usize, c: u32, kind: u32, length: u64, epoch: u64, seed: u64, grid: *mut u8, size: usize) -> Answer;
+    fn microscope_new(rows: usize, cols: usize, t: usize, c: u32, kind: u32, length: u64, epoch: u64, seed: u64, grid: *mut u8, size: usize) -> Start;
     fn microscope_update(sketch: Sketch, key: *const u32, rows: usize, grid: *mut u8, size: usize) -> Answer;
     fn microscope_update_in_place(settings: Settings, reading: *mut u64, state: *mut u64, key: *const u32, rows: usize, grid: *mut u8, size: usize) -> Change;
     fn microscope_advance_to(sketch: Sketch, timestamp: u64, grid: *mut u8, size: usize) -> Answer;
@@ -83,7 +114,9 @@ unsafe extern "C" {
     fn microscope_merge(sketch: Sketch, grid: *mut u8, size: usize, other: Sketch, other_grid: *const u8, other_size: usize) -> Answer;
     fn microscope_store_length(sketch: Sketch) -> Number;
     fn microscope_save(store: *mut u8, length: usize, sketch: Sketch, grid: *const u8, size: usize) -> Verdict;
-    fn microscope_load(grid: *mut u8, size: usize, store: *const u8, length: usize) -> Answer;
+    fn microscope_load(grid: *mut u8, size: usize, store: *const u8, length: usize) -> Start;
+    fn microscope_set_codes(sketch: Sketch, watch: Watch, columns: *const u32, column_count: usize, limits: *const u64, limit_count: usize, kept_columns: *mut [u32; 8192], kept_limits: *mut [u64; 64]) -> Watched;
+    fn microscope_ask(sketch: Sketch, watch: Watch, kept_columns: *const [u32; 8192], kept_limits: *const [u64; 64], grid: *const u8, size: usize, list: *mut u8, room: usize) -> Asked;
 }
 
 /// A sketch with its grid. A refused call stops the benchmark: none of its calls is one to refuse.
@@ -91,6 +124,20 @@ unsafe extern "C" {
 pub struct Ours {
     pub sketch: Sketch,
     pub grid: Vec<u8>,
+}
+
+/// Watched codes.
+pub struct Codes {
+    watch: Watch,
+    columns: Box<[u32; 8192]>,
+    limits: Box<[u64; 64]>,
+}
+
+impl Codes {
+    pub fn none() -> Self {
+        let watch = Watch { count: 0, rows: 0, reached: 0 };
+        Self { watch, columns: Box::new([0; 8192]), limits: Box::new([0; 64]) }
+    }
 }
 
 fn accepted(number: u64) {
@@ -101,9 +148,9 @@ impl Ours {
     pub fn new(rows: usize, cols: usize, t: usize, c: u32, kind: u32, length: u64, seed: u64) -> Self {
         let depth = (t + 7).div_ceil(4) * 4;
         let mut grid = vec![0; rows * cols * depth];
-        let answer = unsafe { microscope_new(rows, cols, t, c, kind, length, 0, seed, grid.as_mut_ptr(), grid.len()) };
-        accepted(answer.number);
-        Self { sketch: answer.sketch, grid }
+        let start = unsafe { microscope_new(rows, cols, t, c, kind, length, 0, seed, grid.as_mut_ptr(), grid.len()) };
+        accepted(start.number);
+        Self { sketch: start.sketch, grid }
     }
 
     pub fn update(&mut self, key: &[u32]) {
@@ -128,10 +175,27 @@ impl Ours {
         self.sketch = answer.sketch;
     }
 
-    pub fn estimate(&self, key: &[u32]) -> f64 {
+    pub fn estimate(&self, key: &[u32]) -> Reading {
         let reading = unsafe { microscope_estimate(self.sketch, key.as_ptr(), key.len(), self.grid.as_ptr(), self.grid.len()) };
         accepted(reading.number);
-        reading.linear
+        reading
+    }
+
+    pub fn set_codes(&self, codes: &mut Codes, columns: &[u32], limits: &[u64]) {
+        let watched = unsafe {
+            microscope_set_codes(self.sketch, codes.watch, columns.as_ptr(), columns.len(), limits.as_ptr(), limits.len(), &mut *codes.columns, &mut *codes.limits)
+        };
+        accepted(watched.number);
+        codes.watch = watched.watch;
+    }
+
+    pub fn ask(&self, codes: &mut Codes, list: &mut [u8]) -> usize {
+        let asked = unsafe {
+            microscope_ask(self.sketch, codes.watch, &*codes.columns, &*codes.limits, self.grid.as_ptr(), self.grid.len(), list.as_mut_ptr(), list.len())
+        };
+        accepted(asked.number);
+        codes.watch = asked.watch;
+        asked.listed
     }
 
     pub fn audit(&self) -> u64 {
@@ -160,8 +224,8 @@ impl Ours {
     }
 
     pub fn load(&mut self, store: &[u8]) {
-        let answer = unsafe { microscope_load(self.grid.as_mut_ptr(), self.grid.len(), store.as_ptr(), store.len()) };
-        accepted(answer.number);
-        self.sketch = answer.sketch;
+        let start = unsafe { microscope_load(self.grid.as_mut_ptr(), self.grid.len(), store.as_ptr(), store.len()) };
+        accepted(start.number);
+        self.sketch = start.sketch;
     }
 }

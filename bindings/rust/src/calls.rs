@@ -1,9 +1,13 @@
 //! The library's calls as they are, with slices in place of addresses and lengths.
 //!
-//! Why each is safe: a slice's address is never null, all of its length is there, and what is lent to be written
-//! overlaps with nothing. That is all that the calls ask for; they have an answer for every value of every argument.
+//! Why each is safe: the address of a slice or array is never null, all of its length is there, and what is lent to be
+//! written overlaps with nothing. That is all that the calls ask for; they have an answer for every value of every
+//! argument.
 
-pub use crate::plain::{Answer, Audit, Change, Drawn, Figure, Number, Reading, Settings, Sketch, Verdict};
+pub use crate::plain::{
+    Answer, Asked, Audit, Change, Drawn, Figure, KEPT_COLUMNS, MOST_CODES, Number, Reading, Settings, Sketch, Start,
+    Verdict, Watch, Watched,
+};
 
 mod library {
     use super::*;
@@ -21,7 +25,7 @@ mod library {
             seed: u64,
             grid: *mut u8,
             grid_bytes: usize,
-        ) -> Answer;
+        ) -> Start;
         pub unsafe fn microscope_update(
             sketch: Sketch,
             key: *const u32,
@@ -113,8 +117,27 @@ mod library {
             grid: *const u8,
             grid_bytes: usize,
         ) -> Verdict;
-        pub unsafe fn microscope_load(grid: *mut u8, grid_bytes: usize, store: *const u8, store_bytes: usize)
-        -> Answer;
+        pub unsafe fn microscope_load(grid: *mut u8, grid_bytes: usize, store: *const u8, store_bytes: usize) -> Start;
+        pub unsafe fn microscope_set_codes(
+            sketch: Sketch,
+            watch: Watch,
+            columns: *const u32,
+            column_count: usize,
+            limits: *const u64,
+            limit_count: usize,
+            kept_columns: *mut [u32; KEPT_COLUMNS],
+            kept_limits: *mut [u64; MOST_CODES],
+        ) -> Watched;
+        pub unsafe fn microscope_ask(
+            sketch: Sketch,
+            watch: Watch,
+            kept_columns: *const [u32; KEPT_COLUMNS],
+            kept_limits: *const [u64; MOST_CODES],
+            grid: *const u8,
+            grid_bytes: usize,
+            list: *mut u8,
+            list_bytes: usize,
+        ) -> Asked;
         pub unsafe fn microscope_depth(t: usize, c: u32) -> Number;
         pub unsafe fn microscope_base_max_zoom(c: u32) -> Number;
         pub unsafe fn microscope_cell_check(cell: *const u8, cell_bytes: usize, t: usize, c: u32) -> Verdict;
@@ -157,7 +180,7 @@ mod library {
     }
 }
 
-/// A fresh sketch: every byte of the grid is written 0. If refused the sketch is all 0.
+/// A fresh sketch and no codes: every byte of the grid is written 0. If refused the sketch is all 0.
 #[allow(clippy::too_many_arguments)]
 pub fn new(
     rows: usize,
@@ -169,7 +192,7 @@ pub fn new(
     epoch: u64,
     seed: u64,
     grid: &mut [u8],
-) -> Answer {
+) -> Start {
     unsafe {
         library::microscope_new(
             rows,
@@ -309,9 +332,57 @@ pub fn save(store: &mut [u8], sketch: Sketch, grid: &[u8]) -> Verdict {
     unsafe { library::microscope_save(store.as_mut_ptr(), store.len(), sketch, grid.as_ptr(), grid.len()) }
 }
 
-/// The sketch of a store, and its grid. If refused the sketch is all 0.
-pub fn load(grid: &mut [u8], store: &[u8]) -> Answer {
+/// The sketch of a store, and its grid; no codes. If refused the sketch is all 0.
+pub fn load(grid: &mut [u8], store: &[u8]) -> Start {
     unsafe { library::microscope_load(grid.as_mut_ptr(), grid.len(), store.as_ptr(), store.len()) }
+}
+
+/// Watches these codes from now on: their columns, one code behind another, and a limit for each. They are kept in the
+/// two arrays, which no other call writes.
+pub fn set_codes(
+    sketch: Sketch,
+    watch: Watch,
+    columns: &[u32],
+    limits: &[u64],
+    kept_columns: &mut [u32; KEPT_COLUMNS],
+    kept_limits: &mut [u64; MOST_CODES],
+) -> Watched {
+    unsafe {
+        library::microscope_set_codes(
+            sketch,
+            watch,
+            columns.as_ptr(),
+            columns.len(),
+            limits.as_ptr(),
+            limits.len(),
+            kept_columns,
+            kept_limits,
+        )
+    }
+}
+
+/// Lists the codes that are at their limit or above and were below at the asking before: their indices, ascending, from
+/// the list's start on. The list needs a byte for each code that is watched; those behind the listed ones stay.
+pub fn ask(
+    sketch: Sketch,
+    watch: Watch,
+    kept_columns: &[u32; KEPT_COLUMNS],
+    kept_limits: &[u64; MOST_CODES],
+    grid: &[u8],
+    list: &mut [u8],
+) -> Asked {
+    unsafe {
+        library::microscope_ask(
+            sketch,
+            watch,
+            kept_columns,
+            kept_limits,
+            grid.as_ptr(),
+            grid.len(),
+            list.as_mut_ptr(),
+            list.len(),
+        )
+    }
 }
 
 /// How many bytes a cell takes.

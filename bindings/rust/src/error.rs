@@ -15,7 +15,7 @@ pub struct Error {
 const UNSOUND: u64 = 14;
 
 impl Error {
-    /// Document 01's number, 1 to 18.
+    /// The number, 1 to 20: document 01's, and from 19 on document 02's.
     pub fn number(&self) -> u64 {
         self.number
     }
@@ -46,6 +46,8 @@ impl Error {
             16 => "the store is not the exact length",
             17 => "a block of the store fails its check or has another's number",
             18 => "not a store of this form",
+            19 => "more than 64 codes",
+            20 => "the list has less room than there are codes",
             _ => "a number that this wrapper does not know",
         }
     }

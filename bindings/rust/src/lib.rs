@@ -13,6 +13,7 @@
 #[allow(unsafe_code)]
 pub mod calls;
 mod clock;
+mod codes;
 mod error;
 mod plain;
 mod sketch;

@@ -63,6 +63,38 @@ impl Sketch {
     }
 }
 
+/// The most codes that can be watched, and so the limits that are kept.
+pub const MOST_CODES: usize = 64;
+
+/// The columns that are kept of watched codes: one a row for each, whatever the sketch; none has more than 128 rows.
+pub const KEPT_COLUMNS: usize = 8192;
+
+/// Watched codes without their columns and limits; the default is no codes.
+#[repr(C)]
+#[derive(Clone, Copy, Debug, Default, PartialEq, Eq)]
+pub struct Watch {
+    /// How many.
+    pub count: usize,
+    /// Rows of the sketch for which they were set.
+    pub rows: usize,
+    /// Code i was at its limit or above at the last asking: the bit of value 2^i.
+    pub reached: u64,
+}
+
+/// What a fresh start or a load gives: a sketch to go on with, and no codes. Both are all 0 if refused.
+#[repr(C)]
+#[derive(Clone, Copy, Debug, PartialEq, Eq)]
+pub struct Start {
+    /// 0 if accepted.
+    pub number: u64,
+    /// With 14 the unsound cell.
+    pub index: usize,
+    /// The sketch to go on with.
+    pub sketch: Sketch,
+    /// No codes: one from before is not to be used on.
+    pub watch: Watch,
+}
+
 /// What a call that may change the sketch gives: the sketch to go on with, as it came if the call was refused.
 #[repr(C)]
 #[derive(Clone, Copy, Debug, PartialEq, Eq)]
@@ -157,6 +189,32 @@ pub struct Audit {
     pub index: usize,
 }
 
+/// What setting codes gives: the watch to go on with, as it came if the call was refused.
+#[repr(C)]
+#[derive(Clone, Copy, Debug, PartialEq, Eq)]
+pub struct Watched {
+    /// 0 if accepted.
+    pub number: u64,
+    /// 0: no cell is judged.
+    pub index: usize,
+    /// The watch to go on with.
+    pub watch: Watch,
+}
+
+/// What an asking gives beside the bytes of its list.
+#[repr(C)]
+#[derive(Clone, Copy, Debug, PartialEq, Eq)]
+pub struct Asked {
+    /// 0 if accepted.
+    pub number: u64,
+    /// With 14 the unsound cell.
+    pub index: usize,
+    /// Codes on the list; 0 if refused.
+    pub listed: usize,
+    /// The watch to go on with, as it came if the call was refused.
+    pub watch: Watch,
+}
+
 /// What a call that may change one cell gives.
 #[repr(C)]
 #[derive(Clone, Copy, Debug, PartialEq, Eq)]
@@ -184,6 +242,8 @@ macro_rules! layout {
 const _: () = assert!(size_of::<usize>() == 8);
 layout!(Sketch, 64, rows at 0, cols at 8, t at 16, c at 24, kind at 28, length at 32, epoch at 40, reading at 48, state at 56);
 layout!(Settings, 48, rows at 0, cols at 8, t at 16, c at 24, kind at 28, length at 32, epoch at 40);
+layout!(Watch, 24, count at 0, rows at 8, reached at 16);
+layout!(Start, 104, number at 0, index at 8, sketch at 16, watch at 80);
 layout!(Change, 24, number at 0, index at 8, draws at 16);
 layout!(Answer, 88, number at 0, index at 8, draws at 16, sketch at 24);
 layout!(Reading, 64, number at 0, index at 8, over at 16, under at 24, linear at 32, fraction at 40, over_items at 48, under_items at 56);
@@ -191,4 +251,6 @@ layout!(Number, 24, number at 0, index at 8, value at 16);
 layout!(Figure, 24, number at 0, index at 8, value at 16);
 layout!(Verdict, 16, number at 0, index at 8);
 layout!(Audit, 24, number at 0, unsound at 8, index at 16);
+layout!(Watched, 40, number at 0, index at 8, watch at 16);
+layout!(Asked, 48, number at 0, index at 8, listed at 16, watch at 24);
 layout!(Drawn, 32, number at 0, index at 8, draws at 16, state at 24);

@@ -1,8 +1,9 @@
-//! A sketch that owns its grid.
+//! A sketch that owns its grid and the codes that it watches.
 
 #![forbid(unsafe_code)]
 
-use crate::calls::{self, Answer, Change, Sketch};
+use crate::calls::{self, Change, KEPT_COLUMNS, MOST_CODES, Sketch, Start, Watch};
+use crate::codes::Codes;
 use crate::{Error, SubWindowClock};
 
 /// The shape of a cell.
@@ -33,10 +34,14 @@ pub struct Reading {
 
 /// A sliding-window frequency sketch. A key is its columns, one a row, each below `cols`; how a key becomes columns (a
 /// hash) is the caller's.
+///
+/// It may watch up to 64 codes, which are keys with a limit. A fresh or loaded sketch watches none; a clone watches the
+/// same, and equal sketches do.
 #[derive(Clone, Debug, PartialEq, Eq)]
 pub struct MicroCm {
     sketch: Sketch,
     grid: Vec<u8>,
+    codes: Codes,
 }
 
 /// The number of a grid that has not the right length.
@@ -108,7 +113,29 @@ impl MicroCm {
         Ok(answer.value)
     }
 
-    /// Adds the counts of another sketch of the same settings that has reached the same sub-window. Gives the draws.
+    /// Watches these codes from now on, in place of those before: `columns` are their keys, one code behind another, and
+    /// `limits` their limits in items, one for each code, 64 at most. Until the first asking all count as below. The memory
+    /// for them, 33 KB whatever their number, is allocated by the first call.
+    pub fn set_codes(&mut self, columns: &[u32], limits: &[u64]) -> Result<(), Error> {
+        self.codes.set(self.sketch, columns, limits)
+    }
+
+    /// The codes that newly reached their limit: each whose Over figure is at its limit or above now and was below at the
+    /// asking before, or that is asked after for the first time since it was set. By their places in the list, ascending.
+    pub fn ask(&mut self) -> Result<Vec<usize>, Error> {
+        let mut list = [0; MOST_CODES];
+        let listed = self.ask_into(&mut list)?;
+        Ok(list[..listed].iter().map(|&code| code as usize).collect())
+    }
+
+    /// The same without allocation: writes the codes to the list's start, a byte each, and gives how many they are. The
+    /// list must have a byte for each code that is watched; those behind the listed ones stay as they are.
+    pub fn ask_into(&mut self, list: &mut [u8]) -> Result<usize, Error> {
+        self.codes.ask(self.sketch, &self.grid, list)
+    }
+
+    /// Adds the counts of another sketch of the same settings that has reached the same sub-window. Gives the draws. The
+    /// codes stay this sketch's.
     pub fn merge(&mut self, other: &Self) -> Result<u64, Error> {
         let answer = calls::merge(self.sketch, &mut self.grid, other.sketch, &other.grid);
         Error::unless_accepted(answer.number, answer.index)?;
@@ -159,7 +186,7 @@ impl MicroCm {
         Error::unless_accepted(verdict.number, verdict.index)
     }
 
-    /// The sketch that was saved.
+    /// The sketch that was saved. No codes are in a store: it watches none.
     pub fn load(store: &[u8]) -> Result<Self, Error> {
         // Refused by 6 if there is nothing wrong but that the grid is missing; then the header can be trusted.
         unless_only_bytes(calls::load(&mut [], store))?;
@@ -210,14 +237,29 @@ impl MicroCm {
         self.sketch
     }
 
+    /// The watched codes as [`calls`] take them, without their columns and limits.
+    pub fn watch(&self) -> Watch {
+        self.codes.watch()
+    }
+
+    /// Where the columns of the watched codes are kept, one code behind another; what stands behind them means nothing.
+    pub fn kept_columns(&self) -> &[u32; KEPT_COLUMNS] {
+        self.codes.columns()
+    }
+
+    /// Where their limits are kept.
+    pub fn kept_limits(&self) -> &[u64; MOST_CODES] {
+        self.codes.limits()
+    }
+
     /// Bytes a cell.
     pub fn cell_bytes(&self) -> usize {
         self.grid.len() / (self.sketch.rows * self.sketch.cols)
     }
 
-    /// Bytes this sketch holds: the struct and its cells.
+    /// Bytes this sketch holds: the struct, its cells, and the memory for codes, once codes were set.
     pub fn memory_bytes(&self) -> usize {
-        size_of::<Self>() + self.grid.len()
+        size_of::<Self>() + self.grid.len() + self.codes.memory_bytes()
     }
 
     /// The sub-window reached.
@@ -231,13 +273,14 @@ impl MicroCm {
     }
 
     /// A sketch whose grid this call fills.
-    fn filled(bytes: usize, fill: impl Fn(&mut [u8]) -> Answer) -> Result<Self, Error> {
+    fn filled(bytes: usize, fill: impl Fn(&mut [u8]) -> Start) -> Result<Self, Error> {
         let mut grid = vec![0; bytes];
-        let answer = fill(&mut grid);
-        Error::unless_accepted(answer.number, answer.index)?;
+        let start = fill(&mut grid);
+        Error::unless_accepted(start.number, start.index)?;
         Ok(Self {
-            sketch: answer.sketch,
+            sketch: start.sketch,
             grid,
+            codes: Codes::started(start.watch),
         })
     }
 }
@@ -249,10 +292,10 @@ fn told(change: Change) -> Result<u64, Error> {
 }
 
 /// A refusal, unless it is for the grid's length alone.
-fn unless_only_bytes(answer: Answer) -> Result<(), Error> {
-    match answer.number {
+fn unless_only_bytes(start: Start) -> Result<(), Error> {
+    match start.number {
         WRONG_BYTES => Ok(()),
-        number => Error::unless_accepted(number, answer.index),
+        number => Error::unless_accepted(number, start.index),
     }
 }
 

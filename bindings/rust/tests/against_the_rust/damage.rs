@@ -62,6 +62,7 @@ pub fn load(store: &[u8], grid: usize) -> Told {
     let answer = called(calls::load(&mut lent, store));
     let right = hits::number("load", &load_order::load(store, Some(grid)));
     same_number("the load's number", answer.number, right)?;
+    same("the codes of a load", answer.watch, calls::Watch::default())?;
     if right == 0 {
         let ours = called(MicroCm::load(store)).map_err(|why| why.to_string())?;
         same("the sketch loaded", answer.sketch, ours.plain())?;

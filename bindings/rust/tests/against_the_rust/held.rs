@@ -14,7 +14,7 @@ pub struct Held {
     pub grid: Vec<u8>,
 }
 
-fn sketch_of(settings: &Settings, reading: u64, state: u64) -> Sketch {
+pub fn sketch_of(settings: &Settings, reading: u64, state: u64) -> Sketch {
     Sketch {
         rows: settings.rows as usize,
         cols: settings.cols as usize,

@@ -13,7 +13,7 @@ thread_local! {
     static HITS: RefCell<BTreeMap<&'static str, BTreeMap<Pair, u64>>> = const { RefCell::new(BTreeMap::new()) };
 }
 
-pub const CALLS: [&str; 14] = [
+pub const CALLS: [&str; 16] = [
     "with_dimensions",
     "update",
     "update_at",
@@ -28,6 +28,8 @@ pub const CALLS: [&str; 14] = [
     "store_length",
     "save",
     "load",
+    "set_codes",
+    "ask",
 ];
 
 /// Two causes of a call that cannot hold at once: an advance on a clock of items crosses nothing, and an advance that

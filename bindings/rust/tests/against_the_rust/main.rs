@@ -12,6 +12,13 @@ extern crate self as smallvec;
 
 mod band;
 mod cells;
+mod code_calls;
+mod code_causes;
+mod code_directed;
+mod code_lists;
+mod code_stories;
+mod code_values;
+mod codes;
 mod damage;
 mod directed;
 mod held;
@@ -67,6 +74,9 @@ use std::time::{SystemTime, UNIX_EPOCH};
 
 const CALLS: u64 = 5_000_000;
 
+/// One call in so many is an asking, so that more than 100,000 are accepted.
+const CALLS_AN_ASKING: u64 = 30;
+
 /// Differences after which a run stops: one mistake makes many.
 const ENOUGH: u64 = 10;
 
@@ -100,6 +110,9 @@ fn asked() -> Result<Run, String> {
 
 /// One story of some hundred or thousand calls.
 fn story(dice: &mut Dice) -> Outcome {
+    if code_calls::askings() < score::calls() / CALLS_AN_ASKING {
+        return code_calls::counted(code_story(dice));
+    }
     match dice.below(24) {
         0..12 => stories::story(dice),
         12..15 => cells::story(dice),
@@ -109,11 +122,21 @@ fn story(dice: &mut Dice) -> Outcome {
     }
 }
 
+fn code_story(dice: &mut Dice) -> Outcome {
+    match dice.below(2) {
+        0 => code_stories::story(dice),
+        _ => code_values::story(dice),
+    }
+}
+
 fn compare(run: &Run) -> Score {
     let mut score = Score::default();
     let directed = directed::ALL.into_iter().chain(refusals::ALL);
     for (name, story) in directed.chain(band::ALL).chain(pairs::ALL) {
         score.count(name, story());
+    }
+    for (name, story) in code_causes::ALL.into_iter().chain(code_directed::ALL) {
+        score.count(name, code_calls::counted(story()));
     }
     let mut dice = Dice::new(run.seed, 0);
     while score::calls() < run.calls && score.differences < ENOUGH {
@@ -136,6 +159,7 @@ fn main() -> ExitCode {
         }
     };
     let score = judge::quietly(|| compare(&run));
+    println!("{}", code_calls::told());
     println!("{}", score::refusals());
     println!("{} calls, {} differences, seed {}", score::calls(), score.differences, run.seed);
     if score.differences == 0 {

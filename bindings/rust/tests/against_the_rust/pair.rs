@@ -12,6 +12,8 @@ pub struct Pair {
     pub settings: Settings,
     pub ours: MicroCm,
     pub theirs: judge::Sketch,
+    /// Bytes that ours holds for codes, of which theirs has none.
+    pub code_bytes: usize,
     looked: u64,
 }
 
@@ -50,6 +52,7 @@ impl Pair {
             settings,
             ours,
             theirs: settings.make(),
+            code_bytes: 0,
             looked: 0,
         };
         pair.agree_wholly()?;
@@ -66,6 +69,7 @@ impl Pair {
             settings,
             ours: called(MicroCm::load(&store)).map_err(|why| why.to_string())?,
             theirs,
+            code_bytes: 0,
             looked: 0,
         };
         pair.agree_wholly()?;
@@ -184,7 +188,7 @@ impl Pair {
             (params.t, params.c),
         )?;
         same("bytes a cell", called(ours.cell_bytes()), theirs.cell_bytes())?;
-        let bytes = size_of::<MicroCm>() + judge::grid(theirs).len();
+        let bytes = size_of::<MicroCm>() + judge::grid(theirs).len() + self.code_bytes;
         same("bytes in memory", called(ours.memory_bytes()), bytes)?;
         same("n", called(ours.sub_window()), theirs.sub_window())?;
         let fraction = called(ours.residual_fraction()).to_bits();

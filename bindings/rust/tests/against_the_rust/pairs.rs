@@ -104,7 +104,8 @@ impl Case {
             "merge" => plain_calls::merge(held, other),
             "store_length" => plain_calls::store_length(held),
             "save" => plain_calls::save(held, size(room)),
-            _ => damage::load(self.store, held.grid.len()),
+            "load" => damage::load(self.store, held.grid.len()),
+            _ => Err("no such call is recorded".into()),
         }
     }
 

@@ -8,7 +8,7 @@ use crate::load_order;
 use crate::numbers;
 use crate::pair::narrow;
 use crate::score::{Outcome, called, same, same_bytes, same_number};
-use microscope::calls::{self, Answer, Change, Reading, Sketch};
+use microscope::calls::{self, Answer, Change, Reading, Sketch, Watch};
 
 /// A call's number and the index beside it, once all else that it told and left was compared.
 pub type Told = Result<(u64, usize), String>;
@@ -224,6 +224,7 @@ pub fn start(held: &Held, seed: u64) -> Told {
     ));
     let right = hits::number("with_dimensions", &numbers::fresh(&s, &held.grid));
     same_number("the fresh start's number", answer.number, right)?;
+    same("the codes of a fresh start", answer.watch, Watch::default())?;
     let told = (answer.number, answer.index);
     if right != 0 {
         same("a refused sketch", answer.sketch, Sketch::default())?;

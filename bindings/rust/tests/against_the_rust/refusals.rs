@@ -110,5 +110,11 @@ fn words() -> Outcome {
     unsound[12 * 5 + 4] = 32;
     let store = stores::encode(&SMALL, 0, 7, &unsound);
     let told = called(MicroCm::load(&store)).map_err(|why| why.to_string());
-    same("14 in words", told, Err("refused by 14: unsound cell 5".into()))
+    same("14 in words", told, Err("refused by 14: unsound cell 5".into()))?;
+    let told = called(ours.set_codes(&[0; 130], &[1; 65])).map_err(|why| why.to_string());
+    same("19 in words", told, Err("refused by 19: more than 64 codes".into()))?;
+    called(ours.set_codes(&[0, 0], &[1])).map_err(|why| why.to_string())?;
+    let told = called(ours.ask_into(&mut [])).map_err(|why| why.to_string());
+    let short = "refused by 20: the list has less room than there are codes";
+    same("20 in words", told, Err(short.into()))
 }

@@ -6,8 +6,8 @@ use std::fmt::Debug;
 /// A story ends at its first difference, told in words: what comes after would differ too.
 pub type Outcome = Result<(), String>;
 
-/// Document 01's numbers, and 0.
-const NUMBERS: usize = 19;
+/// The numbers of documents 01 and 02, and 0.
+const NUMBERS: usize = 21;
 
 thread_local! {
     static CALLS: Cell<u64> = const { Cell::new(0) };
@@ -46,7 +46,7 @@ pub fn same<T: PartialEq + Debug>(what: &str, ours: T, right: T) -> Outcome {
     Err(format!("{what} is {ours:?}, expected {right:?}"))
 }
 
-/// The same for document 01's numbers; how often each came is counted.
+/// The same for the numbers that calls are refused by; how often each came is counted.
 pub fn same_number(what: &str, ours: u64, right: u64) -> Outcome {
     let mut numbered = NUMBERED.get();
     if let Some(count) = numbered.get_mut(ours as usize) {
@@ -67,12 +67,17 @@ pub fn refusals() -> String {
 
 /// The same for bytes, of which only the first that differs is told.
 pub fn same_bytes(what: &str, ours: &[u8], right: &[u8]) -> Outcome {
+    same_each("byte", what, ours, right)
+}
+
+/// The same for many of a kind.
+pub fn same_each<T: PartialEq + Debug>(kind: &str, what: &str, ours: &[T], right: &[T]) -> Outcome {
     if ours == right {
         return Ok(());
     }
     same(&format!("length of {what}"), ours.len(), right.len())?;
     let at = ours.iter().zip(right).position(|(a, b)| a != b).expect("they differ");
-    same(&format!("byte {at} of {what}"), ours[at], right[at])
+    same(&format!("{kind} {at} of {what}"), &ours[at], &right[at])
 }
 
 /// The number of an answer of the wrapper's, 0 if it was accepted.

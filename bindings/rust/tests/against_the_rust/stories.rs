@@ -102,7 +102,7 @@ pub fn reading(dice: &mut Dice, settings: &Settings) -> u64 {
     }
 }
 
-fn start(dice: &mut Dice, settings: Settings) -> Result<Pair, String> {
+pub fn start(dice: &mut Dice, settings: Settings) -> Result<Pair, String> {
     if dice.chance(50) {
         return Pair::fresh(settings);
     }
@@ -112,8 +112,15 @@ fn start(dice: &mut Dice, settings: Settings) -> Result<Pair, String> {
     Pair::loaded(settings, reading, state, &grid)
 }
 
+/// At the reading of this one, so that merges meet.
+pub fn beside(dice: &mut Dice, pair: &Pair, settings: Settings) -> Result<Pair, String> {
+    let grid = grid(dice, &settings);
+    let reading = judge::clock(&pair.theirs).reading;
+    Pair::loaded(settings, reading, dice.state(), &grid)
+}
+
 /// A second sketch to merge with: mostly of the same settings, sometimes one of them changed.
-fn neighbour(dice: &mut Dice, mine: Settings) -> Settings {
+pub fn neighbour(dice: &mut Dice, mine: Settings) -> Settings {
     let seed = dice.any();
     let near = Settings { seed, ..mine };
     match dice.below(16) {
@@ -162,7 +169,7 @@ pub fn key(dice: &mut Dice, rows: usize, cols: usize) -> Vec<u32> {
     key
 }
 
-fn time(dice: &mut Dice, pair: &Pair) -> u64 {
+pub fn time(dice: &mut Dice, pair: &Pair) -> u64 {
     let now = judge::clock(&pair.theirs).reading;
     let length = pair.settings.length;
     let t = pair.settings.t as u64;
@@ -209,11 +216,19 @@ fn stored(pair: &Pair) -> Outcome {
     same(
         "the sketch loaded",
         called(MicroCm::load(&store)),
-        Ok(pair.ours.clone()),
+        Ok(without_codes(&pair.ours)),
     )
 }
 
-fn step(dice: &mut Dice, pair: &mut Pair, other: &mut Pair) -> Outcome {
+/// A load leaves no codes.
+fn without_codes(ours: &MicroCm) -> MicroCm {
+    let mut ours = ours.clone();
+    ours.set_codes(&[], &[]).expect("no codes are a list too");
+    ours
+}
+
+/// One call or some, on one of the two.
+pub fn step(dice: &mut Dice, pair: &mut Pair, other: &mut Pair) -> Outcome {
     let (rows, cols) = (pair.ours.rows(), pair.ours.cols());
     match dice.below(100) {
         0..40 => items(dice, pair),
@@ -238,10 +253,7 @@ pub fn story(dice: &mut Dice) -> Outcome {
     let mut pair = start(dice, settings)?;
     let others = neighbour(dice, settings);
     let mut other = if dice.chance(50) {
-        // At the same reading, so that merges meet.
-        let grid = grid(dice, &others);
-        let reading = judge::clock(&pair.theirs).reading;
-        Pair::loaded(others, reading, dice.state(), &grid)?
+        beside(dice, &pair, others)?
     } else {
         start(dice, others)?
     };
