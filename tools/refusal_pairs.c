@@ -1,8 +1,9 @@
 // Writes the cases of crates/refusal_pairs/data/pairs to standard output (docs/PAIRS.md). Written from document 01's words
-// ("Turning a call back", "Audit and block store"); nothing here comes from our own code.
+// ("Turning a call back", "Audit and block store") and document 02's T-01; nothing here comes from our own code.
 //
-// A good call is spoiled once for each cause of a case. The causes of a call stand in a list, in the order of the table (of a
-// load: in its own order), so the answer is the number of the one that stands first. No test of a call finds it.
+// A good call is spoiled once for each cause of a case. The causes of a call stand in a list, in the order of the table, where
+// 19 and 20 stand after 7 and before 14 (of a load: in its own order), so the answer is the number of the one that stands
+// first. No test of a call finds it.
 #include <stdbool.h>
 #include <stdint.h>
 #include <stdio.h>
@@ -11,10 +12,10 @@
 
 enum call {
     WITH_DIMENSIONS, UPDATE, UPDATE_AT, ADVANCE_TO, ESTIMATE, ESTIMATE_WITH, MEAN,
-    BUCKET_CHECK, MAX_ZOOM, AUDIT, MERGE, STORE_LENGTH, SAVE, LOAD
+    BUCKET_CHECK, MAX_ZOOM, AUDIT, MERGE, STORE_LENGTH, SAVE, LOAD, SET_CODES, ASK
 };
 
-enum { WORDS = 34, ROOM = 4096, BLOCK = 512, PAYLOAD = 504, MOST_COLUMNS = 4 };
+enum { WORDS = 34, ROOM = 4096, BLOCK = 512, PAYLOAD = 504, MOST_COLUMNS = 4, MOST_CODES = 64 };
 
 static const uint64_t longest = UINT64_C(1) << 53;
 
@@ -27,8 +28,8 @@ struct sketch {
     uint64_t rows, cols, t, c, kind, length, epoch, reading, state;
 };
 
-// Which cell is unsound: the key's in its first or last row, or the grid's first or last.
-enum place { NO_CELL, KEY_FIRST, KEY_LAST, FIRST_CELL, LAST_CELL };
+// Which cell is unsound: the key's in its first or last row, the grid's first or last, or the second of the second row.
+enum place { NO_CELL, KEY_FIRST, KEY_LAST, FIRST_CELL, LAST_CELL, ROW_1_COL_1 };
 
 // A sketch, and how its grid is spoiled.
 struct side {
@@ -37,7 +38,7 @@ struct side {
     enum place unsound;
 };
 
-// A call: `first` alone but for a merge, where it receives.
+// A call: `first` alone but for a merge, where it receives, and an asking, whose grid may have an unsound cell by `second` too.
 struct trial {
     enum call call;
     struct side first, second;
@@ -60,6 +61,15 @@ struct trial {
     bool sum_first, sum_last, number_first, number_last;
     int more_bytes;  // behind the blocks
     int cut_to;      // -1: whole
+    // set_codes, ask
+    uint64_t codes;  // so many are given, or kept
+    bool wide_code;  // the last column of the last code is cols
+    bool wide_behind; // ask: the column behind the last code's is cols
+    int more_codes;  // set_codes: there are columns for so many codes more
+    bool no_limits;  // set_codes: columns alone
+    int kept_rows;   // ask: the codes were set for so many rows more
+    int list_off;    // ask: the list has so many bytes more than there are codes
+    bool no_list;    // ask: an empty one
 };
 
 // THE SPOILING: `s` is the sketch that is spoiled.
@@ -135,13 +145,25 @@ SPOIL(block_more, c->more_blocks = 1)
 SPOIL(block_fewer, c->more_blocks = -1)
 SPOIL(fill_first, c->fill_first = true)
 SPOIL(fill_last, c->fill_last = true)
+SPOIL(code_wide, c->wide_code = true)
+SPOIL(code_more, c->more_codes = 1)
+SPOIL(code_fewer, c->more_codes = -1)
+SPOIL(no_limits, c->no_limits = true)
+SPOIL(kept_for_more, c->kept_rows = 1)
+SPOIL(kept_for_fewer, c->kept_rows = -1)
+SPOIL(codes_65, c->codes = MOST_CODES + 1)
+SPOIL(list_short, c->list_off = -1)
+SPOIL(list_empty, c->no_list = true)
+// two codes' cells: a later one's stands before the first one's in the grid, or behind it
+SPOIL(unsound_before, s->unsound = KEY_FIRST; c->second.unsound = FIRST_CELL)
+SPOIL(unsound_behind, s->unsound = KEY_FIRST; c->second.unsound = LAST_CELL)
 
 struct cause {
     int number;
     spoil *spoil;
 };
 
-// THE ORDER: each list has document 01's. Causes of one number that stand together are several ways to it; 0 ends a list.
+// THE ORDER: each list has the table's. Causes of one number that stand together are several ways to it; 0 ends a list.
 #define SETTINGS \
     {1, t_0}, {1, t_more}, {2, c_1}, {2, c_more}, {3, length_0}, {3, length_more}, {4, rows_0}, {4, rows_most}, \
     {4, cols_1}, {4, cols_3}, {4, cols_more}
@@ -186,6 +208,13 @@ static const struct cause of_load[] = {
     {16, block_more}, {16, block_fewer}, {18, fill_first}, {18, fill_last},
     {6, grid_short}, {6, grid_long}, {14, unsound_first}, {14, unsound_last}, END};
 
+// Document 02, T-01: 19 and 20 stand after 7 and before 14. A setting is lent no grid, and judges no cell.
+static const struct cause of_setting[] = {
+    SETTINGS, STATE, KEY, {7, code_wide}, {7, code_more}, {7, code_fewer}, {7, no_limits}, {19, codes_65}, END};
+static const struct cause of_asking[] = {
+    SETTINGS, STATE, GRID, {7, kept_for_more}, {7, kept_for_fewer}, {7, column_first}, {7, column_last}, {7, code_wide},
+    {19, codes_65}, {20, list_short}, {20, list_empty}, KEY_CELLS, ALL_CELLS, {14, unsound_before}, {14, unsound_behind}, END};
+
 // THE GOOD CALLS
 static const struct sketch counting = {2, 4, 1, 2, 0, 4, 0, 5, 0x0123456789ABCDEF};
 static const struct sketch timed = {3, 2, 2, 3, 1, 4, 100, 105, 77};
@@ -194,7 +223,7 @@ static const struct sketch stored = {1, 64, 1, 2, 0, 4, 0, 5, 11};
 
 static struct trial good(enum call call, struct sketch sketch)
 {
-    struct trial c = {.call = call, .fraction = half, .seed = 1, .form = 1, .cut_to = -1};
+    struct trial c = {.call = call, .fraction = half, .seed = 1, .form = 1, .cut_to = -1, .codes = 3};
     c.first.sketch = sketch;
     c.second.sketch = sketch;
     c.second.sketch.state = 5;
@@ -268,8 +297,42 @@ static bool unsound_of(const struct side *side, const struct key *key, uint64_t 
     }
     if (side->unsound == LAST_CELL)
         index = s->rows * s->cols - 1;
+    if (side->unsound == ROW_1_COL_1)
+        index = s->cols + 1;
     *cell = index + 1;
     return index * depth_of(s) + s->t + 2 < grid_of(s);
+}
+
+struct codes {
+    uint64_t columns, limits, wide_at, wide; // so many are lent; one of the columns
+    uint64_t kept, rows, room;               // asking: so many are kept, for so many rows; the bytes of the list
+};
+
+// The first code is the key. The columns of the others are 0, but for the last one of the last code, which is the last of its
+// row: so the grid's first cell is a later code's, and its last the last one's. False if there is nothing to spoil.
+static bool codes_of(const struct trial *c, struct codes *codes)
+{
+    const struct sketch *s = &c->first.sketch;
+    // the same two for a sketch of too many rows
+    uint64_t rows = s->rows <= 129 ? s->rows : 2;
+    uint64_t looked_at = c->call == ASK && c->codes > MOST_CODES ? MOST_CODES : c->codes;
+    bool last_unsound = c->first.unsound == LAST_CELL || c->second.unsound == LAST_CELL;
+    if (rows == 0 && (c->wide_code || c->more_codes != 0 || c->no_limits || c->kept_rows < 0))
+        return false;
+    // no limits are not too many, and a column past the row has no cell
+    if ((c->no_limits && c->codes > MOST_CODES) || (c->wide_code && last_unsound))
+        return false;
+    codes->columns = (c->codes + (uint64_t)c->more_codes) * rows + (uint64_t)c->more_columns;
+    codes->limits = c->no_limits ? 0 : c->codes;
+    codes->wide_at = looked_at * rows + c->wide_behind;
+    codes->wide = c->wide_code || c->wide_behind ? s->cols : s->cols - 1;
+    codes->kept = c->codes;
+    codes->rows = s->rows + (uint64_t)c->kept_rows;
+    // more codes than any list has bytes are lent what the 65 are
+    codes->room = (c->codes > MOST_CODES ? MOST_CODES + 1 : c->codes) + (uint64_t)c->list_off;
+    if (c->no_list)
+        codes->room = 0;
+    return true;
 }
 
 // The clock is set to what the call needs of it. False if it cannot be: a sub-window of length 0 has no number.
@@ -413,9 +476,19 @@ static void write_case(const uint64_t *words, const uint8_t *store, uint64_t len
         exit(1);
 }
 
+static bool has_codes(enum call call)
+{
+    return call == SET_CODES || call == ASK;
+}
+
 static bool has_key(enum call call)
 {
-    return call == UPDATE || call == UPDATE_AT || call == ESTIMATE || call == ESTIMATE_WITH || call == MEAN;
+    return call == UPDATE || call == UPDATE_AT || call == ESTIMATE || call == ESTIMATE_WITH || call == MEAN || has_codes(call);
+}
+
+static bool has_grid(enum call call)
+{
+    return call != STORE_LENGTH && call != SET_CODES;
 }
 
 static void put_bucket(uint64_t *words, const struct trial *c)
@@ -423,6 +496,21 @@ static void put_bucket(uint64_t *words, const struct trial *c)
     const struct sketch *s = &c->first.sketch;
     words[31] = c->row_most ? UINT64_MAX : c->row_past || s->rows == 0 ? s->rows : s->rows - 1;
     words[32] = c->col_past ? s->cols : s->cols > 1;
+}
+
+// What a setting finds as kept before it does not judge.
+static void put_codes(uint64_t *words, const struct trial *c, const struct codes *codes, uint64_t also_unsound)
+{
+    bool asks = c->call == ASK;
+    words[15] = asks ? codes->kept : UINT64_MAX;
+    words[16] = asks ? codes->rows : 5;
+    words[17] = 2;
+    words[18] = asks ? 0 : codes->columns;
+    words[19] = asks ? 0 : codes->limits;
+    words[20] = also_unsound;
+    words[31] = codes->wide_at;
+    words[32] = codes->wide;
+    words[33] = asks ? codes->room : 0;
 }
 
 // The argument that word 31 holds.
@@ -443,29 +531,43 @@ static bool lent_of(const struct side *side, uint64_t *bytes)
     return side->off >= 0 || grid_of(&side->sketch) > 0;
 }
 
+// The index beside 14, of cells that are 1 + their index or 0 for none: of a merge the receiving grid's, of an asking the
+// smallest.
+static uint64_t index_of(enum call call, uint64_t first, uint64_t second)
+{
+    if (first == 0 || (call == ASK && second > 0 && second < first))
+        return second - 1;
+    return first - 1;
+}
+
 // Nothing is written if the causes cannot hold at once.
 static void write_trial(struct trial c, int number, int other)
 {
     static uint8_t store[2 * ROOM];
     uint64_t words[WORDS] = {0}, cell = 0, merged = 0, lent = 0, merged_lent = 0, length = 0;
     struct key key = {0};
-    if (!set_clocks(&c) || (has_key(c.call) && !key_of(&c, &key)))
+    struct codes codes = {0};
+    if (!set_clocks(&c) || (has_key(c.call) && !key_of(&c, &key)) || (has_codes(c.call) && !codes_of(&c, &codes)))
         return;
+    if (c.call == ASK)
+        c.second.sketch = c.first.sketch;
     if (!unsound_of(&c.first, &key, &cell) || !lent_of(&c.first, &lent))
         return;
     if (c.call == MERGE && (!unsound_of(&c.second, &key, &merged) || !lent_of(&c.second, &merged_lent)))
+        return;
+    if (c.call == ASK && !unsound_of(&c.second, &key, &merged))
         return;
     if (c.call == LOAD && !store_of(&c, cell, store, &length))
         return;
     words[0] = c.call;
     words[1] = (uint64_t)number;
     if (number == 14)
-        words[2] = (cell > 0 ? cell : merged) - 1; // of a merge the receiving grid's
+        words[2] = index_of(c.call, cell, merged);
     if (number == 0 && c.call == AUDIT)
         words[2] = cell;
     words[3] = (uint64_t)other;
     put_sketch(words + 4, &c.first.sketch);
-    words[13] = c.call == STORE_LENGTH ? 0 : lent;
+    words[13] = has_grid(c.call) ? lent : 0;
     words[14] = c.call == LOAD ? 0 : cell; // a load's stands in the store
     if (c.call == MERGE) {
         put_sketch(words + 15, &c.second.sketch);
@@ -477,6 +579,8 @@ static void write_trial(struct trial c, int number, int other)
     words[31] = argument_of(&c);
     if (c.call == BUCKET_CHECK)
         put_bucket(words, &c);
+    if (has_codes(c.call))
+        put_codes(words, &c, &codes, merged);
     if (c.call == SAVE && !c.no_store)
         words[33] = BLOCK * blocks_of(&c.first.sketch) + (uint64_t)c.store_off;
     if (c.call == LOAD)
@@ -488,7 +592,7 @@ static void write_trial(struct trial c, int number, int other)
 // Of one cause alone the other number is that of the grid where it is too large for a case.
 static int alone(const struct trial *c, int number)
 {
-    if (number >= 6 || c->call == STORE_LENGTH || !large(&c->first.sketch))
+    if (number >= 6 || !has_grid(c->call) || !large(&c->first.sketch))
         return 0;
     return c->call == LOAD ? 16 : 6;
 }
@@ -627,7 +731,7 @@ static struct sketch lasting(struct sketch s, uint64_t length)
 // The last settings that are in range, and where a grid would be too large the 6 of the one that is lent.
 static void settings_edges(enum call call, struct sketch s)
 {
-    int large_grid = call == STORE_LENGTH ? 0 : call == LOAD ? 16 : 6;
+    int large_grid = !has_grid(call) ? 0 : call == LOAD ? 16 : 6;
     struct sketch widest = s;
     widest.c = 256;
     write_trial(good(call, widest), 0, 0);
@@ -638,7 +742,7 @@ static void settings_edges(enum call call, struct sketch s)
     write_trial(good(call, with(s, 2, 65536, 1)), large_grid, 0);
 }
 
-// rows * log2(cols) is 128, and just above it; no key of a case has so many columns.
+// rows * log2(cols) is 128, and just above it; no key of a case has so many columns, but codes have.
 static void rows_edges(enum call call, struct sketch s)
 {
     write_trial(good(call, with(s, 128, 2, 1)), 0, 0);
@@ -785,6 +889,72 @@ static void loads(void)
     rows_edges(LOAD, counting);
 }
 
+// So many codes, and beside them one way to spoil the call.
+static void coded(enum call call, struct sketch sketch, uint64_t count, spoil *way, int number, int other)
+{
+    struct trial c = good(call, sketch);
+    c.codes = count;
+    if (way != NULL)
+        way(&c, &c.first);
+    write_trial(c, number, other);
+}
+
+SPOIL(no_columns, c->more_codes = -3)
+SPOIL(wide_behind, c->wide_behind = true)
+SPOIL(list_long, c->list_off = 5)
+
+// As many codes as are allowed, of as many rows: every place that there is for kept columns.
+static void full_lists(enum call call)
+{
+    struct sketch tall = with(counting, 128, 2, 1);
+    coded(call, tall, 64, NULL, 0, 0);
+    coded(call, tall, 65, NULL, 19, 0);
+    coded(call, tall, 64, code_wide, 7, 0);
+    coded(call, tall, 65, code_wide, 7, 19);
+}
+
+static void settings_of_codes(void)
+{
+    looks(SET_CODES, of_setting);
+    coded(SET_CODES, counting, 0, NULL, 0, 0);
+    coded(SET_CODES, counting, 0, key_long, 7, 0);
+    coded(SET_CODES, counting, 1, NULL, 0, 0);
+    coded(SET_CODES, counting, 3, no_columns, 7, 0);
+    coded(SET_CODES, timed, 64, NULL, 0, 0);
+    coded(SET_CODES, timed, 66, NULL, 19, 0);
+    full_lists(SET_CODES);
+}
+
+// Without codes nothing is 7 and no cell is judged.
+static void askings_for_nothing(void)
+{
+    coded(ASK, counting, 0, NULL, 0, 0);
+    coded(ASK, counting, 0, kept_for_more, 0, 0);
+    coded(ASK, counting, 0, column_first, 0, 0);
+    coded(ASK, counting, 0, unsound_first, 0, 0);
+    coded(ASK, counting, 0, unsound_last, 0, 0);
+    coded(ASK, counting, 0, list_long, 0, 0);
+}
+
+static void askings(void)
+{
+    looks(ASK, of_asking);
+    askings_for_nothing();
+    coded(ASK, counting, 1, unsound_first, 0, 0); // of the second code
+    coded(ASK, counting, 2, unsound_before, 14, 0);
+    unsound_at(good(ASK, counting), ROW_1_COL_1, 0); // of no code
+    unsound_at(good(ASK, timed), ROW_1_COL_1, 0);
+    coded(ASK, timed, 3, wide_behind, 0, 0);
+    coded(ASK, timed, 3, list_long, 0, 0);
+    coded(ASK, timed, 64, NULL, 0, 0);
+    coded(ASK, timed, 64, list_short, 20, 0);
+    coded(ASK, timed, 65, wide_behind, 19, 0); // only the first 64 are looked at
+    // no list has so many bytes
+    coded(ASK, timed, UINT64_MAX, NULL, 19, 20);
+    coded(ASK, timed, UINT64_MAX, code_wide, 7, 19);
+    full_lists(ASK);
+}
+
 int main(void)
 {
     fresh_starts();
@@ -807,5 +977,7 @@ int main(void)
     lengths();
     looks(SAVE, of_save);
     loads();
+    settings_of_codes();
+    askings();
     return fflush(stdout) == 0 ? 0 : 1;
 }

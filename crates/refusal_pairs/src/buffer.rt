@@ -38,6 +38,19 @@ pub fn columns(key: &[u32], count: usize) -> &[u32] {
     &key[0..count]
 }
 
+pub fn set_column(columns: &mut [u32], at: usize, column: u32) {
+    if at < columns.len() {
+        columns[at] = column;
+    }
+}
+
+pub fn limits(limits: &[u64], count: usize) -> &[u64] {
+    if limits.len() < count {
+        return &limits[0..0];
+    }
+    &limits[0..count]
+}
+
 pub fn number_at(numbers: &[u64], at: usize) -> u64 {
     if at < numbers.len() {
         return numbers[at];

@@ -2,6 +2,7 @@
 use crate::number;
 use cell::MicroParams;
 use clock::SubWindowClock;
+use codes::Watch;
 use microscope::MicroCm;
 use rounding::Rounding;
 
@@ -12,6 +13,8 @@ pub const AUDIT: usize = 9;
 pub const SAVE: usize = 12;
 
 pub const LOAD: usize = 13;
+
+pub const ASK: usize = 15;
 
 // A zoom that no cell has: the highest is 31.
 pub const UNSOUND: u8 = 255;
@@ -35,7 +38,13 @@ pub struct Case {
     pub other_unsound: usize,
     // How many columns the key has.
     pub columns: usize,
-    // A time, the bits of a fraction, a seed, or a row and a column.
+    // The codes kept before, how many columns and limits are lent to a setting, and a second byte of an asking's grid that
+    // is set to `UNSOUND`.
+    pub watch: Watch,
+    pub code_columns: usize,
+    pub limits: usize,
+    pub also_unsound: usize,
+    // A time, the bits of a fraction, a seed, or a row and a column; of codes, 1 + a column's place (0: none) and the column.
     pub argument: u64,
     pub column: usize,
     // The bytes of the store, and how many of them follow the case.
@@ -60,6 +69,10 @@ pub fn case_of(words: &[u8]) -> Case {
         other_size: number::size(words, 24),
         other_unsound: zoom_of(number::size(words, 25), number::size(words, 17)),
         columns: number::size(words, 26),
+        watch: watch_of(words),
+        code_columns: number::size(words, 18),
+        limits: number::size(words, 19),
+        also_unsound: zoom_of(also(call, number::size(words, 20)), number::size(words, 6)),
         argument: number::word(words, 31),
         column: number::size(words, 32),
         store,
@@ -105,6 +118,22 @@ fn clock_in(words: &[u8]) -> SubWindowClock {
         epoch: number::word(words, 6),
         now: number::word(words, 7),
     }
+}
+
+fn watch_of(words: &[u8]) -> Watch {
+    Watch {
+        count: number::size(words, 15),
+        rows: number::size(words, 16),
+        reached: number::word(words, 17),
+    }
+}
+
+// Of a merge this word is about the other sketch.
+fn also(call: usize, cell: usize) -> usize {
+    if call == ASK {
+        return cell;
+    }
+    0
 }
 
 // What a refused start or load hands back.

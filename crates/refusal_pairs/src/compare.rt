@@ -13,8 +13,14 @@ const MARK: u8 = 7;
 pub fn lend(case: Case, grid: &mut [u8], store: &mut [u8]) {
     let call = case.call;
     mark_if(call == case::WITH_DIMENSIONS, grid);
-    mark_if(call == case::SAVE, store);
+    mark_if(writes_store(call), store);
     buffer::set(grid, case.unsound, case::UNSOUND);
+    buffer::set(grid, case.also_unsound, case::UNSOUND);
+}
+
+// An asking's list stands in the place of a store.
+fn writes_store(call: usize) -> bool {
+    call == case::SAVE || call == case::ASK
 }
 
 fn mark_if(marked: bool, bytes: &mut [u8]) {
@@ -27,11 +33,14 @@ pub fn right(case: Case, came: Outcome) -> bool {
     case.number == came.number && case.index == came.index
 }
 
-// An accepted call leaves nothing to compare here. The other grid of a merge and the store of a load are lent to be read
-// only, so nothing can write them.
+// An accepted call leaves nothing to compare here. The other grid of a merge, the store of a load and what an asking finds
+// kept are lent to be read only, so nothing can write them.
 pub fn kept(case: Case, came: Outcome, grid: &[u8], store: &[u8]) -> bool {
     if came.number == 0 {
         return true;
+    }
+    if !came.codes_kept {
+        return false;
     }
     if !same_sketch(came.sketch, left_by(case)) {
         return false;
@@ -60,7 +69,7 @@ fn as_before(case: Case, grid: &[u8], before: &mut [u8], store: &[u8], stored: &
     if !check::same(grid, buffer::part(&before[..], grid.len())) {
         return false;
     }
-    if case.call == case::SAVE {
+    if writes_store(case.call) {
         return check::same(store, buffer::part(&stored[..], store.len()));
     }
     true

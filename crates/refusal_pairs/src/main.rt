@@ -6,11 +6,12 @@ mod compare;
 mod number;
 mod perform;
 mod report;
+mod watched;
 
 use case::Case;
 
 // How many kinds of calls there are.
-const CALLS: usize = 14;
+const CALLS: usize = 16;
 
 // How many cases were read, and whether more may come.
 struct Progress {

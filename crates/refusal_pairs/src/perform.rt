@@ -1,6 +1,7 @@
 // The calls on a sketch, by the numbers that docs/PAIRS.md gives them.
 use crate::case::Case;
 use crate::number;
+use crate::watched;
 use microscope::AuditAnswer;
 use microscope::Finding;
 use microscope::HighestAnswer;
@@ -19,6 +20,8 @@ pub struct Outcome {
     pub number: u64,
     pub index: u64,
     pub sketch: MicroCm,
+    // Whether the codes, their columns and their limits are as before; true of a call that is handed none.
+    pub codes_kept: bool,
 }
 
 pub fn perform(
@@ -38,6 +41,8 @@ pub fn perform(
         10 => changed(sketch_merging::merge(sketch, grid, case.other, other_grid)),
         12 => told(store::save(store, sketch, &grid[..]), sketch),
         13 => loaded(store::load(grid, &store[..])),
+        14 => watched::set(case, key),
+        15 => watched::ask(case, key, &grid[..], store),
         _ => looked(case, key, &grid[..]),
     }
 }
@@ -65,10 +70,15 @@ fn looked(case: Case, key: &[u32], grid: &[u8]) -> Outcome {
 }
 
 fn told(verdict: Verdict, sketch: MicroCm) -> Outcome {
+    told_with(verdict, sketch, true)
+}
+
+pub fn told_with(verdict: Verdict, sketch: MicroCm, codes_kept: bool) -> Outcome {
     Outcome {
         number: verdict.number() as u64,
         index: verdict.index() as u64,
         sketch,
+        codes_kept,
     }
 }
 
@@ -119,6 +129,7 @@ fn audited(answer: AuditAnswer, sketch: MicroCm) -> Outcome {
         number: verdict.number() as u64,
         index: found(audit),
         sketch,
+        codes_kept: true,
     }
 }
 

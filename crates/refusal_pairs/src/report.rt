@@ -29,6 +29,8 @@ fn name(call: usize) {
         11 => text(b"store_length"),
         12 => text(b"save"),
         13 => text(b"load"),
+        14 => text(b"set_codes"),
+        15 => text(b"ask"),
         _ => text(b"no such call"),
     }
 }
