@@ -1,13 +1,13 @@
-//! The recorded pairs of causes, crates/refusal_pairs/data/pairs: each call is refused by the number recorded with it. The
-//! calls on watched codes are passed over.
+//! The recorded pairs of causes, crates/refusal_pairs/data/pairs: each call is refused by the number recorded with it.
 
+use crate::code_calls::{self, Kept};
 use crate::damage;
 use crate::held::Held;
 use crate::hits::CALLS;
 use crate::numbers;
 use crate::plain_calls::{self, Told};
 use crate::score::{Outcome, same, same_bytes};
-use microscope::calls::Sketch;
+use microscope::calls::{KEPT_COLUMNS, MOST_CODES, Sketch, Watch};
 
 pub const ALL: [(&str, fn() -> Outcome); 1] = [("recorded pairs", recorded)];
 
@@ -15,11 +15,15 @@ static RECORDED: &[u8] = include_bytes!("../../../../crates/refusal_pairs/data/p
 
 const WORDS: usize = 34;
 
-/// From this number on they are calls on watched codes.
-const OF_CODES: u64 = 14;
-
-/// What the bytes of a grid are that a fresh start is lent, so that a write shows.
+/// What the bytes of a grid are that a fresh start is lent, and of a list that an asking is lent, so that a write shows.
 const MARK: u8 = 7;
+
+/// What stands where a setting keeps columns and limits, for the same reason.
+const KEPT_COLUMN: u32 = 7;
+const KEPT_LIMIT: u64 = 7;
+
+/// Room for the columns of 66 codes of 128 rows.
+const CODE_COLUMNS: usize = 66 * 128;
 
 /// A call as it is recorded: its words, and the store of a load.
 struct Case {
@@ -57,19 +61,22 @@ fn held(words: &[u64]) -> Held {
         reading: words[7],
         state: words[8],
     };
-    let mut grid = vec![0; size(words[9])];
-    if let Some(index) = size(words[10]).checked_sub(1) {
-        grid[index * numbers::depth(sketch.t) + sketch.t + 2] = 255;
+    let grid = vec![0; size(words[9])];
+    unsound(Held { sketch, grid }, words[10])
+}
+
+/// The same with one more cell whose zoom is 255: 1 + its index, 0: none.
+fn unsound(mut held: Held, cell: u64) -> Held {
+    let t = held.sketch.t;
+    if let Some(index) = size(cell).checked_sub(1) {
+        held.grid[index * numbers::depth(t) + t + 2] = 255;
     }
-    Held { sketch, grid }
+    held
 }
 
 impl Case {
     fn call(&self) -> &'static str {
-        match self.words[0] {
-            OF_CODES.. => "a call on codes",
-            call => CALLS[size(call)],
-        }
+        CALLS[size(self.words[0])]
     }
 
     fn key(&self) -> Vec<u32> {
@@ -79,13 +86,54 @@ impl Case {
 
     fn mine(&self) -> Held {
         let held = held(&self.words[4..15]);
-        if self.call() != "with_dimensions" {
-            return held;
+        match self.call() {
+            "with_dimensions" => Held {
+                grid: vec![MARK; held.grid.len()],
+                ..held
+            },
+            "ask" => unsound(held, self.words[20]),
+            _ => held,
         }
-        Held {
-            grid: vec![MARK; held.grid.len()],
-            ..held
+    }
+
+    fn watch(&self) -> Watch {
+        Watch {
+            count: size(self.words[15]),
+            rows: size(self.words[16]),
+            reached: self.words[17],
         }
+    }
+
+    /// The columns of codes: first the key's, one at the place that is recorded, and else 0.
+    fn code_columns(&self) -> Vec<u32> {
+        let mut columns = self.key();
+        columns.resize(CODE_COLUMNS, 0);
+        if let Some(place) = size(self.words[31]).checked_sub(1) {
+            columns[place] = small(self.words[32]);
+        }
+        columns
+    }
+
+    fn set_codes(&self, held: &Held) -> Told {
+        let mut kept = Kept::none();
+        kept.watch = self.watch();
+        kept.columns.fill(KEPT_COLUMN);
+        kept.limits.fill(KEPT_LIMIT);
+        let [columns, limits] = [18, 19].map(|at| size(self.words[at]));
+        code_calls::set_codes(
+            held,
+            &kept,
+            &self.code_columns()[..columns],
+            &[0; MOST_CODES + 2][..limits],
+        )
+    }
+
+    /// Each limit is 0.
+    fn ask(&self, held: &Held) -> Told {
+        let mut kept = Kept::none();
+        kept.watch = self.watch();
+        kept.columns.copy_from_slice(&self.code_columns()[..KEPT_COLUMNS]);
+        code_calls::ask(held, &kept, &vec![MARK; size(self.words[33])])
     }
 
     /// The sketch that a merge merges from.
@@ -112,6 +160,8 @@ impl Case {
             "store_length" => plain_calls::store_length(held),
             "save" => plain_calls::save(held, size(room)),
             "load" => damage::load(self.store, held.grid.len()),
+            "set_codes" => self.set_codes(held),
+            "ask" => self.ask(held),
             _ => Err("no such call is recorded".into()),
         }
     }
@@ -137,11 +187,7 @@ fn recorded() -> Outcome {
     let mut count = 0;
     while !rest.is_empty() {
         let (case, behind) = first_of(rest);
-        let outcome = if case.words[0] < OF_CODES {
-            case.as_recorded()
-        } else {
-            Ok(())
-        };
+        let outcome = case.as_recorded();
         all = all.and(outcome.map_err(|what| format!("{} of case {count}: {what}; {:?}", case.call(), case.words)));
         (rest, count) = (behind, count + 1);
     }
