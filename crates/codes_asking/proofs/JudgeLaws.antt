@@ -1,20 +1,17 @@
 -- The ways through the judges of an asking: each way out is the cause that holds first. Assumes nothing.
-use Prim.Native.Nat.{ℕ, zero, suc, _+_, _-_, _*_, _^_, _≤_, _<_, min}
-use mathlib.Core.Path.{_≡_, refl, sym, ap, _∙_}
+use Prim.Native.Nat.{ℕ, _+_, _-_, _*_, _^_, _≤_, _<_, min}
+use mathlib.Core.Path.{_≡_, refl, sym, _∙_}
 use mathlib.Core.Bool.{Bool, true, false, not, cond, _&&_, _||_, true≢false}
-use mathlib.Core.List.{List, [], _∷_}
+use mathlib.Core.List.{List}
 use native.Mathlib.Omega.{arith}
 use native.Mathlib.Numerals.{add-one}
-use native.Mathlib.Nat.{mul-le-mul-right, add-mul, one-mul, zero-mul, add-sub-cancel-left}
+use native.Mathlib.Nat.{zero-mul, add-sub-cancel-left}
 use lib.Dec.{ltb, eqb}
-use lib.ListN.{length, getD, take, drop, length-take}
-use lib.Seq.{getD-take, getD-drop}
+use lib.ListN.{length, take, drop, length-take}
 use borrow.Author.Tests.{lt-ltb, le-ltb, eq-eqb, ne-eqb, eqb-true, not-true, not-false}
-use Rattle.laws.specs.Parts.{part}
-use Rattle.laws.proofs.PartLaws.{part-at, part-length}
 use Rattle.refusal.specs.declared.Verdict.{Verdict}
 use Rattle.refusal.specs.declared.Verdict.the-variants.{Accepted, Refused, Unsound}
-use Rattle.refusal.specs.Refusals.{isAccepted, indexOf, whenAccepted}
+use Rattle.refusal.specs.Refusals.{isAccepted, indexOf}
 use Rattle.refusal.proofs.VerdictLaws.{refused-leaves, turned-back, let-pass}
 use Rattle.refusal.proofs.GateLaws.{gate-open, gate-shut}
 use Rattle.microscope.specs.declared.MicroCm.{MicroCm}
@@ -22,11 +19,11 @@ use Rattle.microscope.specs.Sketch.{cellsOf, keyCells}
 use Rattle.microscope.specs.Audit.{firstUnsound}
 use Rattle.microscope.specs.Refusals.{allBelow, keyFits, refuseSketch, refuseUnsound, sketchVerdict}
 use Rattle.microscope.specs.Workers.{Ready}
-use Rattle.microscope.proofs.AddressLaws.{all-below, each-below, product-le}
+use Rattle.microscope.proofs.AddressLaws.{product-le}
 use Rattle.microscope.proofs.SketchGates.{sketch-gate}
 use Rattle.microscope.proofs.ReadyLaws.{ready-of}
 use Rattle.codes.specs.declared.Watch.{Watch}
-use Rattle.codes.specs.Codes.{codeIn, onto, watchedCells}
+use Rattle.codes.specs.Codes.{codeIn, onto}
 use Rattle.codes.specs.Refusals.{keptFit, askVerdict, listedOf, askedOf, askOutcome, askCall}
 use Rattle.codes.proofs.VerdictLaws.{ask-accepted}
 use Rattle.codes.proofs.CodeLaws.{code-inside, code-fits}
@@ -87,12 +84,6 @@ module _ (k : MicroCm) (columns g : List ℕ) where
       }
 
   module _ (code : ℕ) (w : Placed k columns g code) where
-    pub start-fits : code * k .rows < 2 ^ 64
-    start-fits = omega (arith, w .room, w .long)
-
-    pub end-fits : code * k .rows + k .rows < 2 ^ 64
-    end-fits = omega (arith, w .room, w .long)
-
     pub cells-fit : k .rows * k .cols < 2 ^ 64
     cells-fit = omega (arith, product-le (k .rows) (k .cols) 128 65536 (w .ready .rows-high) (w .ready .cols-high))
 

@@ -1,13 +1,13 @@
 -- The pass over the codes: what stands before this code is listed, and its flags are set. Assumes nothing.
-use Prim.Native.Nat.{ℕ, zero, suc, _+_, _-_, _*_, _/_, _%_, _^_, _≤_, _<_}
-use mathlib.Core.Path.{_≡_, refl, sym, ap, _∙_}
+use Prim.Native.Nat.{ℕ, suc, _+_, _-_, _*_, _/_, _%_, _^_, _≤_, _<_}
+use mathlib.Core.Path.{_≡_, refl, sym, _∙_}
 use mathlib.Core.Bool.{Bool, true, false, not, cond, _&&_}
 use mathlib.Core.List.{List, [], _∷_, _++_, append-assoc}
 use native.Mathlib.Omega.{arith}
 use native.Mathlib.Numerals.{add-one}
 use native.Mathlib.Nat.{add-sub-cancel-left, mod-eq-of-lt}
 use lib.Pow.{pow-mono, pow-lt}
-use lib.Dec.{leb, eqb}
+use lib.Dec.{leb}
 use lib.Ieee.{Float}
 use lib.ListN.{length, getD, take, drop, set, length-append, length-set}
 use lib.Seq.{drop-cons, set-at}
@@ -18,22 +18,13 @@ use Rattle.microscope.specs.Workers.{Readable}
 use Rattle.microscope.proofs.AddressLaws.{product-le}
 use Rattle.figures.specs.declared.Estimated.{Estimated}
 use Rattle.figures.specs.Workers.{estimateOf}
-use Rattle.codes.specs.Codes.{codeIn, reachedAt, newly, flagAt, flagsOf, onto}
+use Rattle.codes.specs.Codes.{codeIn, reachedAt, newly, flagAt, flagsOf}
 use Rattle.codes.proofs.FlagLaws.{flags-below}
 use Rattle.codes.proofs.CodeLaws.{code-inside}
 use Rattle.codes_asking.specs.Workers.{Askable, Room, Noted, Told}
 
 -- THE OVER FIGURE of a code, of columns that are lent as a part
 module _ (k : MicroCm) (columns g : List ℕ) (code : ℕ) (w : Askable k columns g code) where
-  pub over-start : code * k .rows < 2 ^ 64
-  over-start = omega (arith, w .room, w .long)
-
-  pub over-end : code * k .rows + k .rows < 2 ^ 64
-  over-end = omega (arith, w .room, w .long)
-
-  pub over-room : code * k .rows + k .rows ≤ length columns
-  over-room = w .room
-
   pub over-readable : Readable k (take (code * k .rows + k .rows - code * k .rows) (drop (code * k .rows) columns)) g
   over-readable = rw add-sub-cancel-left (w .readable)
 

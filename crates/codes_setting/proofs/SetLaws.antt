@@ -1,19 +1,18 @@
 -- The ways through the setting of a list, and the two copies that it makes: what stands before i is copied, what stands behind it is not yet. Assumes nothing.
 use Prim.Native.Nat.{ℕ, suc, _+_, _*_, _/_, _%_, _≤_, _<_}
-use mathlib.Core.Path.{_≡_, refl, sym, ap, _∙_}
+use mathlib.Core.Path.{_≡_, refl, sym, _∙_}
 use mathlib.Core.Bool.{Bool, true, false, not}
-use mathlib.Core.List.{List, [], _∷_, _++_, append-assoc}
+use mathlib.Core.List.{List, _++_, append-assoc}
 use native.Mathlib.Omega.{arith}
 use native.Mathlib.Numerals.{add-one}
 use native.Mathlib.Nat.{mul-le-mul, mul-mod-left, mul-div-cancel, div-add-mod'}
 use lib.Dec.{eqb}
-use lib.ListN.{length, getD, take, drop, set, length-set, length-take, length-append, length-drop}
+use lib.ListN.{length, getD, take, drop, set, length-set, length-take}
 use lib.Seq.{drop-cons, set-at, take-suc, take-all}
-use borrow.Author.Tests.{lt-ltb, le-ltb, eq-eqb, ne-eqb, not-true, not-false, eqb-true}
-use Rattle.laws.proofs.ChoiceLaws.{both-hold}
+use borrow.Author.Tests.{lt-ltb, le-ltb, eq-eqb, ne-eqb, not-true, not-false}
 use Rattle.refusal.specs.declared.Verdict.{Verdict}
 use Rattle.refusal.specs.declared.Verdict.the-variants.{Accepted, Refused}
-use Rattle.refusal.specs.Refusals.{isAccepted, whenAccepted}
+use Rattle.refusal.specs.Refusals.{isAccepted}
 use Rattle.refusal.proofs.VerdictLaws.{refused-leaves, turned-back, let-pass}
 use Rattle.refusal.proofs.GateLaws.{gate-open, gate-shut, gate-passed}
 use Rattle.microscope.specs.declared.MicroCm.{MicroCm}

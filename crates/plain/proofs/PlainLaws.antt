@@ -5,8 +5,7 @@ use mathlib.Core.Bool.{Bool, true, false, not}
 use lib.Ieee.{Float}
 use borrow.Author.Tests.{ne-eqb}
 use Rattle.refusal.specs.declared.Verdict.{Verdict}
-use Rattle.refusal.specs.declared.Verdict.the-variants.{Accepted}
-use Rattle.refusal.specs.Refusals.{numberOf, indexOf, isAccepted, whenAccepted}
+use Rattle.refusal.specs.Refusals.{numberOf, indexOf, isAccepted}
 use Rattle.refusal.proofs.VerdictLaws.{refused-leaves, turned-back, let-pass}
 use Rattle.cell.specs.declared.CellAnswer.{CellAnswer}
 use Rattle.clock.specs.declared.SubWindowClock.{SubWindowClock}
