@@ -10,3 +10,4 @@ pub mod RunLaws
 pub mod CauseTheorems
 pub mod Worked
 pub mod Askings
+pub mod AcceptanceLaws

@@ -1,5 +1,6 @@
 pub mod Codes
 pub mod Refusals
 pub mod Causes
+pub mod Acceptance
 pub mod Askings
 pub mod Examples
