@@ -7,8 +7,8 @@ use Rattle.refusal.specs.declared.Verdict.{Verdict}
 use Rattle.refusal.specs.declared.Verdict.the-variants.{Accepted, Refused, Unsound}
 use Rattle.refusal.specs.Refusals.{isAccepted, whenAccepted}
 use Rattle.rounding.specs.Draws.{seeded}
-use Rattle.microscope.specs.Sketch.{World}
-use Rattle.microscope.specs.Refusals.{world}
+use Rattle.sketch.specs.Sketch.{World}
+use Rattle.sketch.specs.Refusals.{world}
 use Rattle.band.specs.Calls.{Call, Settings, State, fresh, next, run}
 use Rattle.band.specs.Tally.{Tally, accepts, empty, tallied}
 use Rattle.band.specs.Peak.{zoomNow, zoomCrossing, peak}

@@ -15,12 +15,12 @@ use Rattle.cell.specs.Cell.{zoomAt, zoomOf, maxZoom}
 use Rattle.cell.proofs.PowerLaws.{zoom-below}
 use Rattle.clock.specs.Clock.{nOf}
 use Rattle.clock.proofs.ClockLaws.{start-n}
-use Rattle.microscope.specs.declared.MicroCm.{MicroCm}
-use Rattle.microscope.specs.Sketch.{cellOf}
-use Rattle.microscope.specs.Figures.{itemsIn, leastIn, sumBack, overOf}
-use Rattle.microscope.proofs.SettingsLaws.{good-settings}
-use Rattle.microscope.proofs.GridLaws.{fits-cell, cell-length}
-use Rattle.microscope.proofs.WorldLaws.{good-room, fresh-byte, fresh-shutter}
+use Rattle.sketch.specs.declared.MicroCm.{MicroCm}
+use Rattle.sketch.specs.Sketch.{cellOf}
+use Rattle.sketch.specs.Figures.{itemsIn, leastIn, sumBack, overOf}
+use Rattle.sketch.proofs.SettingsLaws.{good-settings}
+use Rattle.sketch.proofs.GridLaws.{fits-cell, cell-length}
+use Rattle.sketch.proofs.WorldLaws.{good-room, fresh-byte, fresh-shutter}
 use Rattle.band.specs.Calls.{Call, Settings, fresh, run}
 use Rattle.band.specs.Tally.{Tally, empty, tally, exact}
 use Rattle.band.specs.Peak.{peak}

@@ -7,13 +7,13 @@ use borrow.Author.Tests.{not-false}
 use Rattle.laws.specs.Within.{Within}
 use Rattle.refusal.specs.declared.Verdict.the-variants.{Accepted, Unsound}
 use Rattle.refusal.proofs.VerdictLaws.{not-refused}
-use Rattle.microscope.specs.declared.ReadingAnswer.{ReadingAnswer}
-use Rattle.microscope.specs.Sketch.{keyCells}
-use Rattle.microscope.specs.Refusals.{keyFits, readVerdict, readCall}
-use Rattle.microscope.specs.Workers.{Judged}
-use Rattle.microscope.proofs.KeyLaws.{key-cells-below}
-use Rattle.microscope.proofs.ReadingLaws.{key-read}
-use Rattle.microscope.proofs.WorldLaws.{fits-key, none-unsound}
+use Rattle.sketch.specs.declared.ReadingAnswer.{ReadingAnswer}
+use Rattle.sketch.specs.Sketch.{keyCells}
+use Rattle.sketch.specs.Refusals.{keyFits, readVerdict, readCall}
+use Rattle.sketch.specs.Workers.{Judged}
+use Rattle.sketch.proofs.KeyLaws.{key-cells-below}
+use Rattle.sketch.proofs.ReadingLaws.{key-read}
+use Rattle.sketch.proofs.WorldLaws.{fits-key, none-unsound}
 use Rattle.band.specs.Calls.{Call, Settings}
 use Rattle.band.specs.Tally.{Tally, tally, exact}
 use Rattle.band.specs.Band.{AcceptedSettings, Key, NeverAtTop, after, covered, bandWidth, highestHeld, overAfter}

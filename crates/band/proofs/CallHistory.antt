@@ -17,13 +17,13 @@ use Rattle.cell.specs.Crossing.{insideOf, crossOf}
 use Rattle.cell.proofs.CrossingLaws.{inside-quiet}
 use Rattle.clock.specs.declared.SubWindowClock.{SubWindowClock}
 use Rattle.clock.specs.Clock.{nOf, crossedOf}
-use Rattle.microscope.specs.declared.MicroCm.{MicroCm}
-use Rattle.microscope.specs.Sketch.{cellsOf, cellIndex, cellOf, crossCell, World, recorded, moved}
-use Rattle.microscope.specs.Refusals.{keyFits}
-use Rattle.microscope.proofs.GridLaws.{Holding, Fits, fits-cell, cell-length, cross-each-cell}
-use Rattle.microscope.proofs.KeyLaws.{key-hit, key-miss}
-use Rattle.microscope.proofs.WorldLaws.{GoodWorld, good-room, fits-key}
-use Rattle.microscope.proofs.AddressLaws.{key-rows}
+use Rattle.sketch.specs.declared.MicroCm.{MicroCm}
+use Rattle.sketch.specs.Sketch.{cellsOf, cellIndex, cellOf, crossCell, World, recorded, moved}
+use Rattle.sketch.specs.Refusals.{keyFits}
+use Rattle.sketch.proofs.GridLaws.{Holding, Fits, fits-cell, cell-length, cross-each-cell}
+use Rattle.sketch.proofs.KeyLaws.{key-hit, key-miss}
+use Rattle.sketch.proofs.WorldLaws.{GoodWorld, good-room, fits-key}
+use Rattle.sketch.proofs.AddressLaws.{key-rows}
 use Rattle.band.specs.Tally.{counted}
 use Rattle.band.specs.Peak.{zoomNow, zoomInside}
 use Rattle.band.proofs.TallyLaws.{counted-hit, counted-miss}

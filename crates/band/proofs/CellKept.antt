@@ -10,9 +10,9 @@ use Rattle.refusal.specs.Refusals.{whenAccepted}
 use Rattle.cell.specs.Cell.{maxZoom}
 use Rattle.clock.specs.Clock.{nOf, tickOf, advanceOf}
 use Rattle.clock.proofs.ClockLaws.{advance-grows}
-use Rattle.microscope.specs.Sketch.{cellOf, World, recorded, moved}
-use Rattle.microscope.specs.Refusals.{world}
-use Rattle.microscope.proofs.WorldLaws.{recorded-good, moved-good}
+use Rattle.sketch.specs.Sketch.{cellOf, World, recorded, moved}
+use Rattle.sketch.specs.Refusals.{world}
+use Rattle.sketch.proofs.WorldLaws.{recorded-good, moved-good}
 use Rattle.band.specs.Calls.{Call, update, updateAt, advance, Settings, State, next, run}
 use Rattle.band.specs.Tally.{Tally, accepts, noted, tallied, tallyFrom}
 use Rattle.band.specs.Peak.{zoomNow, zoomCrossing, peak}

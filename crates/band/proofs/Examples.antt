@@ -17,10 +17,10 @@ use Rattle.cell.specs.Crossing.{closeOf, clearOf, emptied, insideOf, ceilingOf,
 use Rattle.clock.specs.declared.SubWindowClock.{SubWindowClock}
 use Rattle.clock.specs.declared.SubWindowClock.the-variants.{CountBased, TimeBased}
 use Rattle.clock.specs.Clock.{nOf}
-use Rattle.microscope.specs.Sketch.{keyCells, countFrom, insertAt, insertEach, recorded, crossEach, moved}
-use Rattle.microscope.specs.Figures.{overOf, itemsIn, leastIn, sumBack}
-use Rattle.microscope.specs.Refusals.{bitsUpTo, gridFits, allBelow, keyFits, updateCall, updateAtCall, advanceCall}
-use Rattle.microscope.specs.Audit.{firstUnsound}
+use Rattle.sketch.specs.Sketch.{keyCells, countFrom, insertAt, insertEach, recorded, crossEach, moved}
+use Rattle.sketch.specs.Figures.{overOf, itemsIn, leastIn, sumBack}
+use Rattle.sketch.specs.Refusals.{bitsUpTo, gridFits, allBelow, keyFits, updateCall, updateAtCall, advanceCall}
+use Rattle.sketch.specs.Audit.{firstUnsound}
 use Rattle.band.specs.Calls.{Call, update, updateAt, advance, Settings, State, fresh, next, run}
 use Rattle.band.specs.Tally.{accepts, hits, counted, empty, noted, tallied, tallyFrom, tally, exact}
 use Rattle.band.specs.Peak.{zoomNow, zoomInside, zoomCrossing, peak}

@@ -8,7 +8,7 @@ use Rattle.refusal.specs.declared.Verdict.the-variants.{Accepted}
 use Rattle.refusal.specs.Refusals.{isAccepted}
 use Rattle.refusal.proofs.VerdictLaws.{accepted-is}
 use Rattle.cell.specs.Cell.{soundOf}
-use Rattle.microscope.specs.Sketch.{gridBytes, cellOf}
+use Rattle.sketch.specs.Sketch.{gridBytes, cellOf}
 use Rattle.band.specs.Calls.{Call, Settings}
 use Rattle.band.specs.Tally.{accepts, tally}
 use Rattle.band.specs.Band.{AcceptedSettings, after}

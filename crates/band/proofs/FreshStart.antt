@@ -7,8 +7,8 @@ use borrow.Author.Tests.{eqb-true, eq-eqb, not-false}
 use Rattle.refusal.specs.declared.Verdict.{Verdict}
 use Rattle.refusal.specs.declared.Verdict.the-variants.{Accepted}
 use Rattle.refusal.proofs.VerdictLaws.{not-refused}
-use Rattle.microscope.specs.Sketch.{gridBytes}
-use Rattle.microscope.specs.Refusals.{SketchOutcome, freshVerdict, freshCall}
+use Rattle.sketch.specs.Sketch.{gridBytes}
+use Rattle.sketch.specs.Refusals.{SketchOutcome, freshVerdict, freshCall}
 use Rattle.band.specs.Calls.{Settings, fresh}
 use Rattle.band.specs.Band.{AcceptedSettings}
 use Rattle.band.proofs.RefusalLaws.{settings-first, settings-pass}

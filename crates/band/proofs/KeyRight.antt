@@ -8,8 +8,8 @@ use lib.ListN.{length}
 use native.Mathlib.Omega.{arith}
 use borrow.Author.Tests.{eqb-true, eq-eqb}
 use Rattle.laws.proofs.ChoiceLaws.{both-hold}
-use Rattle.microscope.specs.Refusals.{allBelow}
-use Rattle.microscope.proofs.AddressLaws.{all-below, each-below}
+use Rattle.sketch.specs.Refusals.{allBelow}
+use Rattle.sketch.proofs.AddressLaws.{all-below, each-below}
 use Rattle.band.specs.Calls.{Settings}
 use Rattle.band.specs.Tally.{keyAccepted}
 use Rattle.band.specs.Band.{Key}

@@ -11,11 +11,11 @@ use Rattle.clock.specs.declared.SubWindowClock.{SubWindowClock}
 use Rattle.clock.specs.declared.SubWindowClock.the-variants.{CountBased, TimeBased}
 use Rattle.clock.specs.Clock.{lengthOf, nOf, isCount, tickOf, advanceOf, startOf}
 use Rattle.clock.proofs.ClockLaws.{Keeps, tick-keeps, advance-keeps, start-keeps, tick-reading, tick-grows}
-use Rattle.microscope.specs.Sketch.{World, recorded, moved}
-use Rattle.microscope.specs.Refusals.{keyFits, world}
-use Rattle.microscope.proofs.SettingsLaws.{good-settings}
+use Rattle.sketch.specs.Sketch.{World, recorded, moved}
+use Rattle.sketch.specs.Refusals.{keyFits, world}
+use Rattle.sketch.proofs.SettingsLaws.{good-settings}
 use Rattle.laws.proofs.ChoiceLaws.{both-hold}
-use Rattle.microscope.proofs.WorldLaws.{Good, GoodWorld, fresh-good, recorded-good, moved-good, settings-fit}
+use Rattle.sketch.proofs.WorldLaws.{Good, GoodWorld, fresh-good, recorded-good, moved-good, settings-fit}
 use Rattle.band.specs.Calls.{Call, update, updateAt, advance, Settings, fresh}
 use Rattle.band.specs.Tally.{Tally, keyAccepted, accepts, empty, noted}
 use Rattle.band.specs.Band.{AcceptedSettings}

@@ -13,11 +13,11 @@ use Rattle.refusal.specs.Refusals.{isAccepted, refuse, outside}
 use Rattle.refusal.proofs.VerdictLaws.{not-refused}
 use Rattle.clock.specs.declared.SubWindowClock.{SubWindowClock}
 use Rattle.clock.specs.Clock.{lengthOf, nOf, isCount, tickOf, advanceOf}
-use Rattle.microscope.specs.declared.MicroCm.{MicroCm}
-use Rattle.microscope.specs.Sketch.{cellsOf, gridBytes, keyCells, allCells}
-use Rattle.microscope.specs.Refusals.{gridFits, allBelow, keyFits, refuseSettings, refuseSketch, refuseUnsound, judgedCells, updateCall, updateAtCall, advanceCall}
-use Rattle.microscope.proofs.KeyLaws.{key-cells-below}
-use Rattle.microscope.proofs.WorldLaws.{fits-key, none-unsound, all-cells-below}
+use Rattle.sketch.specs.declared.MicroCm.{MicroCm}
+use Rattle.sketch.specs.Sketch.{cellsOf, gridBytes, keyCells, allCells}
+use Rattle.sketch.specs.Refusals.{gridFits, allBelow, keyFits, refuseSettings, refuseSketch, refuseUnsound, judgedCells, updateCall, updateAtCall, advanceCall}
+use Rattle.sketch.proofs.KeyLaws.{key-cells-below}
+use Rattle.sketch.proofs.WorldLaws.{fits-key, none-unsound, all-cells-below}
 use Rattle.band.specs.Calls.{Call, update, updateAt, advance, Settings}
 use Rattle.band.specs.Tally.{Tally, keyAccepted, accepts}
 use Rattle.band.specs.Band.{AcceptedSettings}

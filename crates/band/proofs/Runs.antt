@@ -8,9 +8,9 @@ use Rattle.refusal.specs.declared.Verdict.the-variants.{Accepted}
 use Rattle.refusal.specs.Refusals.{isAccepted, whenAccepted}
 use Rattle.refusal.proofs.VerdictLaws.{refused-leaves}
 use Rattle.clock.specs.declared.SubWindowClock.{SubWindowClock}
-use Rattle.microscope.specs.declared.MicroCm.{MicroCm}
-use Rattle.microscope.specs.Sketch.{World, updated, advanced, updatedAt, recorded, moved}
-use Rattle.microscope.specs.Refusals.{world, updateCall, updateAtCall, advanceCall}
+use Rattle.sketch.specs.declared.MicroCm.{MicroCm}
+use Rattle.sketch.specs.Sketch.{World, updated, advanced, updatedAt, recorded, moved}
+use Rattle.sketch.specs.Refusals.{world, updateCall, updateAtCall, advanceCall}
 use Rattle.band.specs.Calls.{Call, update, updateAt, advance, Settings, State, outcome, next, run}
 use Rattle.band.specs.Tally.{Tally, noted, tallied, tallyFrom}
 

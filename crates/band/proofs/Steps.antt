@@ -6,8 +6,8 @@ use mathlib.Core.List.{List}
 use Rattle.refusal.specs.declared.Verdict.the-variants.{Accepted}
 use Rattle.refusal.proofs.VerdictLaws.{accepted-is}
 use Rattle.rounding.specs.Draws.{seeded}
-use Rattle.microscope.specs.Sketch.{World}
-use Rattle.microscope.specs.Refusals.{world}
+use Rattle.sketch.specs.Sketch.{World}
+use Rattle.sketch.specs.Refusals.{world}
 use Rattle.band.specs.Calls.{Call, Settings, fresh, next}
 use Rattle.band.specs.Tally.{Tally, accepts, empty, noted, tallied, tally}
 use Rattle.band.specs.Band.{AcceptedSettings, after}

@@ -8,8 +8,8 @@ use Rattle.laws.specs.Sums.{largest}
 use Rattle.laws.specs.Within.{Within}
 use Rattle.cell.specs.Cell.{maxZoom}
 use Rattle.clock.specs.Clock.{nOf}
-use Rattle.microscope.specs.Figures.{overOf}
-use Rattle.microscope.specs.Refusals.{refuseSettings}
+use Rattle.sketch.specs.Figures.{overOf}
+use Rattle.sketch.specs.Refusals.{refuseSettings}
 use Rattle.band.specs.Calls.{Call, Settings, State, fresh, run}
 use Rattle.band.specs.Tally.{Tally, tally, exact}
 use Rattle.band.specs.Peak.{peak}

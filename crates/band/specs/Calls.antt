@@ -3,9 +3,9 @@ use Prim.Native.Nat.{ℕ}
 use mathlib.Core.List.{List, [], _∷_}
 use Rattle.cell.specs.declared.MicroParams.{MicroParams}
 use Rattle.clock.specs.declared.SubWindowClock.{SubWindowClock}
-use Rattle.microscope.specs.declared.MicroCm.{MicroCm}
-use Rattle.microscope.specs.Sketch.{freshSketch, freshGrid}
-use Rattle.microscope.specs.Refusals.{SketchOutcome, updateCall, updateAtCall, advanceCall}
+use Rattle.sketch.specs.declared.MicroCm.{MicroCm}
+use Rattle.sketch.specs.Sketch.{freshSketch, freshGrid}
+use Rattle.sketch.specs.Refusals.{SketchOutcome, updateCall, updateAtCall, advanceCall}
 
 pub data Call : Type 0 where
   update : List ℕ → Call

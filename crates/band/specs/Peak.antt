@@ -9,9 +9,9 @@ use Rattle.cell.specs.Cell.{depthOf, zoomOf}
 use Rattle.cell.specs.Crossing.{insideOf}
 use Rattle.clock.specs.declared.SubWindowClock.{SubWindowClock}
 use Rattle.clock.specs.Clock.{nOf, tickOf, advanceOf, crossedOf}
-use Rattle.microscope.specs.declared.MicroCm.{MicroCm}
-use Rattle.microscope.specs.Sketch.{cellOf, crossCell, World, recorded}
-use Rattle.microscope.specs.Refusals.{world}
+use Rattle.sketch.specs.declared.MicroCm.{MicroCm}
+use Rattle.sketch.specs.Sketch.{cellOf, crossCell, World, recorded}
+use Rattle.sketch.specs.Refusals.{world}
 use Rattle.band.specs.Calls.{Call, update, updateAt, advance, State, outcome, next}
 
 -- the zoom of the j-th cell

@@ -7,7 +7,7 @@ use lib.ListN.{length, getD}
 use Rattle.laws.specs.Sums.{least, total}
 use Rattle.clock.specs.declared.SubWindowClock.{SubWindowClock}
 use Rattle.clock.specs.Clock.{nOf, isCount, tickOf, advanceOf, startOf}
-use Rattle.microscope.specs.Refusals.{allBelow}
+use Rattle.sketch.specs.Refusals.{allBelow}
 use Rattle.band.specs.Calls.{Call, update, updateAt, advance, Settings}
 
 -- a clock of its own, and for each row, column and sub-window a whole number without upper limit

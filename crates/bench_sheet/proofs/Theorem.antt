@@ -1,6 +1,6 @@
 -- The bench sheet holds: each item is computed from the definitions by the checker, in the crate that has them. Assumes nothing.
 use Rattle.cell.proofs.BenchItems.{cell-items}
-use Rattle.microscope.proofs.BenchItems.{sketch-items}
+use Rattle.sketch.proofs.BenchItems.{sketch-items}
 use Rattle.bench_sheet.specs.BenchSheet.{BenchSheet}
 
 pub bench-sheet : BenchSheet

@@ -3,15 +3,8 @@
 // A cell counts the items of t + 1 sub-windows in pixels of one byte. A pixel's unit is c^Z items, where the zoom Z is
 // shared by all of them; the shutter holds the items that do not make up a whole unit yet. The definitions of all that is
 // done to a cell stand here, with what its calls share; crates cell_reading, insertion, crossing and merging have the calls.
-pub mod answer;
-pub mod judging;
-pub mod layout;
-pub mod power;
-
 use refusal::Verdict;
 use rounding::Rounding;
-ghost use mathlib.Core.Path.{_≡_};
-ghost use Rattle.cell.specs.Refusals.{paramsCall, layoutCall};
 
 // The number of sub-windows of a window, and the zoom base.
 pub struct MicroParams {
@@ -76,40 +69,4 @@ pub struct Held {
     pub verdict: Verdict,
     pub shutter: u32,
     pub unit: u64,
-}
-
-impl MicroParams {
-    // t is 1 to 4,096, and c is 2 to 256.
-    pub fn checked(t: usize, c: u32) -> ParamsAnswer
-        ensures { λ r. ⌜ r ≡ paramsCall (record { t = t; c = c }) ⌝ }
-    {
-        let params = MicroParams { t, c };
-        let verdict = judging::settings(params);
-        ParamsAnswer { verdict, params }
-    }
-}
-
-impl MicroLayout {
-    pub fn new(params: MicroParams) -> LayoutAnswer
-        ensures { λ r. ⌜ r ≡ layoutCall params ⌝ }
-    {
-        let verdict = judging::settings(params);
-        if !verdict.accepted() {
-            return LayoutAnswer {
-                verdict,
-                layout: MicroLayout {
-                    params,
-                    pixels: 0,
-                    zoom_at: 0,
-                    shutter_at: 0,
-                    depth: 0,
-                    zoom_in_ceiling: 0,
-                },
-            };
-        }
-        LayoutAnswer {
-            verdict,
-            layout: layout::derived(params),
-        }
-    }
 }

@@ -13,15 +13,15 @@ use Rattle.laws.proofs.PartLaws.{part-at}
 use Rattle.refusal.specs.declared.Verdict.the-variants.{Accepted}
 use Rattle.refusal.proofs.GateLaws.{gate-open, gate-passed}
 use Rattle.cell.specs.Cell.{soundOf}
-use Rattle.microscope.specs.declared.MicroCm.{MicroCm}
-use Rattle.microscope.specs.Sketch.{cellOf, keyCells, allCells}
-use Rattle.microscope.specs.Refusals.{allBelow, keyFits, refuseSketch, sketchVerdict, readVerdict}
-use Rattle.microscope.specs.Workers.{Ready, Judged}
-use Rattle.microscope.proofs.AddressLaws.{each-below, key-column, product-le}
-use Rattle.microscope.proofs.JudgedLaws.{judged-cons}
-use Rattle.microscope.proofs.ReadyLaws.{ready-of, keyed-ready}
-use Rattle.microscope.proofs.ReadingLaws.{keyed, keyed-gate, cells}
-use Rattle.microscope.proofs.SketchGates.{judged, judged-gate, sketch-gate}
+use Rattle.sketch.specs.declared.MicroCm.{MicroCm}
+use Rattle.sketch.specs.Sketch.{cellOf, keyCells, allCells}
+use Rattle.sketch.specs.Refusals.{allBelow, keyFits, refuseSketch, sketchVerdict, readVerdict}
+use Rattle.sketch.specs.Workers.{Ready, Judged}
+use Rattle.sketch.proofs.AddressLaws.{each-below, key-column, product-le}
+use Rattle.sketch.proofs.JudgedLaws.{judged-cons}
+use Rattle.sketch.proofs.ReadyLaws.{ready-of, keyed-ready}
+use Rattle.sketch.proofs.ReadingLaws.{keyed, keyed-gate, cells}
+use Rattle.sketch.proofs.SketchGates.{judged, judged-gate, sketch-gate}
 use Rattle.codes.specs.declared.Watch.{Watch}
 use Rattle.codes.specs.Codes.{codeIn, codeCells, isIn, those, watchedCells}
 use Rattle.codes.specs.Refusals.{codesFit, keptFit, setVerdict, askVerdict}

@@ -10,9 +10,9 @@ use Rattle.refusal.specs.declared.Verdict.{Verdict}
 use Rattle.refusal.specs.declared.Verdict.the-variants.{Accepted}
 use Rattle.refusal.specs.Refusals.{isAccepted, whenAccepted}
 use Rattle.refusal.proofs.VerdictLaws.{refused-leaves}
-use Rattle.microscope.specs.declared.MicroCm.{MicroCm}
-use Rattle.microscope.specs.Figures.{overOf}
-use Rattle.microscope.specs.Refusals.{readCall}
+use Rattle.sketch.specs.declared.MicroCm.{MicroCm}
+use Rattle.sketch.specs.Figures.{overOf}
+use Rattle.sketch.specs.Refusals.{readCall}
 use Rattle.codes.specs.Codes.{codeIn, newly, flagAt, reachedAt, onto}
 use Rattle.codes.specs.Refusals.{AskOutcome, askOutcome, setVerdict, newList, setCall, askVerdict, listedOf, askedOf, askCall}
 use Rattle.codes.specs.Askings.{Call, setting, asking, Kept, noneKept, askedAt, after, run, lastSet, codesOf, reachedBy, wasReached, Listed, Askings}

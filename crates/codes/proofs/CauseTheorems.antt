@@ -2,7 +2,7 @@
 use mathlib.Core.Path.{refl}
 use Rattle.refusal.specs.declared.Verdict.the-variants.{Accepted}
 use Rattle.refusal.specs.Causes.{firstOf, numbersOf, placeIn, rankedFrom}
-use Rattle.microscope.proofs.CauseTheorems.{one-cause}
+use Rattle.sketch.proofs.CauseTheorems.{one-cause}
 use Rattle.codes.specs.Codes.{watchedCells}
 use Rattle.codes.specs.Causes.{CodeCalls}
 

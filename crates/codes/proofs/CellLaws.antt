@@ -10,12 +10,12 @@ use lib.ListN.{length, getD}
 use Rattle.refusal.specs.declared.Verdict.{Verdict}
 use Rattle.refusal.specs.declared.Verdict.the-variants.{Accepted, Unsound}
 use Rattle.cell.specs.Cell.{soundOf}
-use Rattle.microscope.specs.declared.MicroCm.{MicroCm}
-use Rattle.microscope.specs.Sketch.{cellIndex, cellOf, keyCells, countFrom}
-use Rattle.microscope.specs.Audit.{firstUnsound}
-use Rattle.microscope.specs.Refusals.{refuseUnsound}
-use Rattle.microscope.specs.Workers.{Judged}
-use Rattle.microscope.proofs.JudgedLaws.{judged-cons, cons-judged}
+use Rattle.sketch.specs.declared.MicroCm.{MicroCm}
+use Rattle.sketch.specs.Sketch.{cellIndex, cellOf, keyCells, countFrom}
+use Rattle.sketch.specs.Audit.{firstUnsound}
+use Rattle.sketch.specs.Refusals.{refuseUnsound}
+use Rattle.sketch.specs.Workers.{Judged}
+use Rattle.sketch.proofs.JudgedLaws.{judged-cons, cons-judged}
 use Rattle.codes.specs.Codes.{codeIn, codeCells, isIn, those}
 use Rattle.codes.proofs.InLaws.{or-where, or-true, in-where, in-first, in-later, not-in-none, in-append}
 

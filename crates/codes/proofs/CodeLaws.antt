@@ -9,9 +9,9 @@ use lib.ListN.{length, getD, take, length-take}
 use lib.Seq.{getD-take}
 use borrow.Author.Tests.{eq-eqb}
 use Rattle.laws.proofs.PartLaws.{part-at, part-length, piece-room}
-use Rattle.microscope.specs.declared.MicroCm.{MicroCm}
-use Rattle.microscope.specs.Refusals.{allBelow, keyFits}
-use Rattle.microscope.proofs.AddressLaws.{all-below, each-below}
+use Rattle.sketch.specs.declared.MicroCm.{MicroCm}
+use Rattle.sketch.specs.Refusals.{allBelow, keyFits}
+use Rattle.sketch.proofs.AddressLaws.{all-below, each-below}
 use Rattle.codes.specs.Codes.{codeIn}
 
 -- the codes before it are below the count, and so is this one

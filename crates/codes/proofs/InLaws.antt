@@ -5,8 +5,8 @@ use mathlib.Core.Bool.{Bool, true, false, _||_, true≢false}
 use mathlib.Core.List.{List, [], _∷_, _++_}
 use lib.Dec.{eqb}
 use borrow.Author.Tests.{eqb-true, eq-eqb}
-use Rattle.microscope.specs.Refusals.{allBelow}
-use Rattle.microscope.proofs.GridLaws.{below-first, below-rest}
+use Rattle.sketch.specs.Refusals.{allBelow}
+use Rattle.sketch.proofs.GridLaws.{below-first, below-rest}
 use Rattle.codes.specs.Codes.{isIn}
 
 -- one of two

@@ -10,8 +10,8 @@ use lib.ListN.{length, getD}
 use Rattle.refusal.specs.declared.Verdict.{Verdict}
 use Rattle.refusal.specs.declared.Verdict.the-variants.{Accepted, Refused, Unsound}
 use Rattle.refusal.specs.Refusals.{whenAccepted}
-use Rattle.microscope.specs.declared.MicroCm.{MicroCm}
-use Rattle.microscope.proofs.AddressLaws.{product-le}
+use Rattle.sketch.specs.declared.MicroCm.{MicroCm}
+use Rattle.sketch.proofs.AddressLaws.{product-le}
 use Rattle.codes.specs.Codes.{codeIn, reachedAt, flagAt, onto}
 use Rattle.codes.specs.Refusals.{setVerdict, newList, setCall, askVerdict, askedOf, askCall}
 use Rattle.codes.specs.Askings.{Call, setting, asking, Kept, noneKept, after, run, CodeList, lastSet, wasReached}

@@ -15,13 +15,13 @@ use Rattle.refusal.specs.Refusals.{isAccepted, refuse}
 use Rattle.refusal.specs.Causes.{Cause, told, holds, refuseBy, firstOf}
 use Rattle.refusal.proofs.VerdictLaws.{accepted-is, refuse-then, not-refused}
 use Rattle.refusal.proofs.GateLaws.{Gate, gate-chain, gate-passed, gate-open, gate-shut}
-use Rattle.microscope.specs.declared.MicroCm.{MicroCm}
-use Rattle.microscope.specs.Refusals.{allBelow, refuseSketch, refuseUnsound, sketchVerdict}
-use Rattle.microscope.specs.Causes.{sketchCauses}
-use Rattle.microscope.specs.Workers.{Ready, Judged}
-use Rattle.microscope.proofs.SketchGates.{settingsOf, judged, settings-gate, judged-gate, sketch-gate}
-use Rattle.microscope.proofs.SettingsLaws.{not-false, GoodSettings, good-settings}
-use Rattle.microscope.proofs.ReadyLaws.{ready-of}
+use Rattle.sketch.specs.declared.MicroCm.{MicroCm}
+use Rattle.sketch.specs.Refusals.{allBelow, refuseSketch, refuseUnsound, sketchVerdict}
+use Rattle.sketch.specs.Causes.{sketchCauses}
+use Rattle.sketch.specs.Workers.{Ready, Judged}
+use Rattle.sketch.proofs.SketchGates.{settingsOf, judged, settings-gate, judged-gate, sketch-gate}
+use Rattle.sketch.proofs.SettingsLaws.{not-false, GoodSettings, good-settings}
+use Rattle.sketch.proofs.ReadyLaws.{ready-of}
 use Rattle.codes.specs.declared.Watch.{Watch}
 use Rattle.codes.specs.Codes.{watchedCells}
 use Rattle.codes.specs.Refusals.{codesFit, keptFit, badCodes, foreignCodes, manyCodes, shortList, setVerdict, askVerdict}

@@ -10,14 +10,14 @@ use lib.Dec.{eqb}
 use lib.ListN.{length}
 use Rattle.laws.proofs.ChoiceLaws.{both-hold}
 use Rattle.refusal.specs.declared.Verdict.the-variants.{Accepted, Unsound}
-use Rattle.microscope.specs.declared.MicroCm.{MicroCm}
-use Rattle.microscope.specs.Sketch.{cellsOf, keyCells}
-use Rattle.microscope.specs.Figures.{keyCell}
-use Rattle.microscope.specs.Refusals.{allBelow, keyFits, refuseUnsound, readVerdict}
-use Rattle.microscope.specs.Workers.{Judged, Readable}
-use Rattle.microscope.proofs.AddressLaws.{product-le}
-use Rattle.microscope.proofs.KeyLaws.{KeyFrom, key-cells-below}
-use Rattle.microscope.proofs.ReadingLaws.{key-read}
+use Rattle.sketch.specs.declared.MicroCm.{MicroCm}
+use Rattle.sketch.specs.Sketch.{cellsOf, keyCells}
+use Rattle.sketch.specs.Figures.{keyCell}
+use Rattle.sketch.specs.Refusals.{allBelow, keyFits, refuseUnsound, readVerdict}
+use Rattle.sketch.specs.Workers.{Judged, Readable}
+use Rattle.sketch.proofs.AddressLaws.{product-le}
+use Rattle.sketch.proofs.KeyLaws.{KeyFrom, key-cells-below}
+use Rattle.sketch.proofs.ReadingLaws.{key-read}
 use Rattle.codes.specs.declared.Watch.{Watch}
 use Rattle.codes.specs.Codes.{codeIn, codeCells, watchedCells}
 use Rattle.codes.specs.Askings.{Kept, SmallestUnsound}

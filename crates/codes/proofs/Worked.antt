@@ -7,10 +7,10 @@ use Rattle.laws.specs.Powers.{highest}
 use Rattle.laws.specs.Sums.{least, total}
 use Rattle.cell.specs.Cell.{shutterOf, soundOf, maxZoom}
 use Rattle.clock.specs.Clock.{nOf}
-use Rattle.microscope.specs.Sketch.{keyCells, countFrom}
-use Rattle.microscope.specs.Figures.{itemsIn, leastIn, sumBack}
-use Rattle.microscope.specs.Audit.{firstUnsound}
-use Rattle.microscope.specs.Refusals.{bitsUpTo, gridFits, allBelow}
+use Rattle.sketch.specs.Sketch.{keyCells, countFrom}
+use Rattle.sketch.specs.Figures.{itemsIn, leastIn, sumBack}
+use Rattle.sketch.specs.Audit.{firstUnsound}
+use Rattle.sketch.specs.Refusals.{bitsUpTo, gridFits, allBelow}
 use Rattle.codes.specs.Codes.{reachedAt, newly, flagsOf, codeCells, isIn, those}
 use Rattle.codes.specs.Refusals.{codesFit, keptFit, setCall, askCall}
 use Rattle.codes.specs.Askings.{after}

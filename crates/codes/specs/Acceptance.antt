@@ -6,8 +6,8 @@ use mathlib.Core.Bool.{true}
 use mathlib.Core.List.{List}
 use lib.ListN.{length}
 use Rattle.refusal.specs.declared.Verdict.the-variants.{Accepted}
-use Rattle.microscope.specs.declared.MicroCm.{MicroCm}
-use Rattle.microscope.specs.Refusals.{keyFits, sketchVerdict, readVerdict}
+use Rattle.sketch.specs.declared.MicroCm.{MicroCm}
+use Rattle.sketch.specs.Refusals.{keyFits, sketchVerdict, readVerdict}
 use Rattle.codes.specs.declared.Watch.{Watch}
 use Rattle.codes.specs.Codes.{codeIn}
 use Rattle.codes.specs.Refusals.{setVerdict, askVerdict}

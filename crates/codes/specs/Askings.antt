@@ -12,10 +12,10 @@ use lib.ListN.{length, getD, take, drop}
 use Rattle.refusal.specs.declared.Verdict.the-variants.{Accepted, Unsound}
 use Rattle.refusal.specs.Refusals.{isAccepted, whenAccepted}
 use Rattle.cell.specs.Cell.{soundOf}
-use Rattle.microscope.specs.declared.MicroCm.{MicroCm}
-use Rattle.microscope.specs.Sketch.{cellOf}
-use Rattle.microscope.specs.Figures.{overOf, keyCell}
-use Rattle.microscope.specs.Refusals.{readCall}
+use Rattle.sketch.specs.declared.MicroCm.{MicroCm}
+use Rattle.sketch.specs.Sketch.{cellOf}
+use Rattle.sketch.specs.Figures.{overOf, keyCell}
+use Rattle.sketch.specs.Refusals.{readCall}
 use Rattle.codes.specs.declared.Watch.{Watch}
 use Rattle.codes.specs.Codes.{noCodes, codeIn, reachedAt, isIn}
 use Rattle.codes.specs.Refusals.{AskOutcome, setVerdict, setCall, askCall}

@@ -3,9 +3,9 @@ use Prim.Native.Nat.{ℕ}
 use mathlib.Core.List.{List, [], _∷_, _++_}
 use Rattle.refusal.specs.Causes.{Cause, Told}
 use Rattle.rounding.specs.Refusals.{noState}
-use Rattle.microscope.specs.declared.MicroCm.{MicroCm}
-use Rattle.microscope.specs.Refusals.{badCells}
-use Rattle.microscope.specs.Causes.{settingsCauses, sketchCauses}
+use Rattle.sketch.specs.declared.MicroCm.{MicroCm}
+use Rattle.sketch.specs.Refusals.{badCells}
+use Rattle.sketch.specs.Causes.{settingsCauses, sketchCauses}
 use Rattle.codes.specs.declared.Watch.{Watch}
 use Rattle.codes.specs.Codes.{watchedCells}
 use Rattle.codes.specs.Refusals.{badCodes, foreignCodes, manyCodes, shortList, setVerdict, askVerdict}

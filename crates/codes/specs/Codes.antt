@@ -5,9 +5,9 @@ use mathlib.Core.List.{List, [], _∷_, _++_}
 use lib.Dec.{leb, eqb}
 use lib.ListN.{length, getD, drop}
 use Rattle.laws.specs.Parts.{part}
-use Rattle.microscope.specs.declared.MicroCm.{MicroCm}
-use Rattle.microscope.specs.Sketch.{keyCells, allCells}
-use Rattle.microscope.specs.Figures.{overOf}
+use Rattle.sketch.specs.declared.MicroCm.{MicroCm}
+use Rattle.sketch.specs.Sketch.{keyCells, allCells}
+use Rattle.sketch.specs.Figures.{overOf}
 use Rattle.codes.specs.declared.Watch.{Watch}
 
 -- no codes: what a fresh start or a load leaves

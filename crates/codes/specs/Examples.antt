@@ -4,7 +4,7 @@ use Prim.Native.Nat.{ℕ}
 use mathlib.Core.Path.{_≡_}
 use mathlib.Core.List.{List, [], _∷_}
 use Rattle.clock.specs.declared.SubWindowClock.the-variants.{CountBased}
-use Rattle.microscope.specs.declared.MicroCm.{MicroCm}
+use Rattle.sketch.specs.declared.MicroCm.{MicroCm}
 use Rattle.codes.specs.Askings.{Kept, noneKept, setting, asking, after, askedAt}
 
 abbrev pub sketch : MicroCm

@@ -9,8 +9,8 @@ use Rattle.refusal.specs.declared.Verdict.the-variants.{Accepted}
 use Rattle.refusal.specs.Refusals.{whenAccepted}
 use Rattle.refusal.specs.Causes.{Cause, cause, refuseBy}
 use Rattle.rounding.specs.Refusals.{refuseState}
-use Rattle.microscope.specs.declared.MicroCm.{MicroCm}
-use Rattle.microscope.specs.Refusals.{allBelow, refuseSettings, refuseSketch, refuseUnsound}
+use Rattle.sketch.specs.declared.MicroCm.{MicroCm}
+use Rattle.sketch.specs.Refusals.{allBelow, refuseSettings, refuseSketch, refuseUnsound}
 use Rattle.codes.specs.declared.Watch.{Watch}
 use Rattle.codes.specs.declared.WatchAnswer.{WatchAnswer}
 use Rattle.codes.specs.declared.AskAnswer.{AskAnswer}

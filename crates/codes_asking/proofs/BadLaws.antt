@@ -12,13 +12,13 @@ use Rattle.refusal.specs.declared.Verdict.{Verdict}
 use Rattle.refusal.specs.declared.Verdict.the-variants.{Accepted, Unsound}
 use Rattle.refusal.specs.Refusals.{isAccepted, indexOf}
 use Rattle.cell.specs.Cell.{soundOf}
-use Rattle.microscope.specs.declared.MicroCm.{MicroCm}
-use Rattle.microscope.specs.Sketch.{cellsOf, cellIndex, cellOf, keyCells, countFrom, allCells}
-use Rattle.microscope.specs.Audit.{firstUnsound}
-use Rattle.microscope.specs.Refusals.{allBelow, keyFits, refuseUnsound}
-use Rattle.microscope.proofs.GridLaws.{below-first, below-rest}
-use Rattle.microscope.proofs.KeyLaws.{KeyFrom, key-cells-below}
-use Rattle.microscope.proofs.WorldLaws.{fits-key}
+use Rattle.sketch.specs.declared.MicroCm.{MicroCm}
+use Rattle.sketch.specs.Sketch.{cellsOf, cellIndex, cellOf, keyCells, countFrom, allCells}
+use Rattle.sketch.specs.Audit.{firstUnsound}
+use Rattle.sketch.specs.Refusals.{allBelow, keyFits, refuseUnsound}
+use Rattle.sketch.proofs.GridLaws.{below-first, below-rest}
+use Rattle.sketch.proofs.KeyLaws.{KeyFrom, key-cells-below}
+use Rattle.sketch.proofs.WorldLaws.{fits-key}
 use Rattle.codes.specs.Codes.{codeIn, codeCells, isIn, those, watchedCells}
 use Rattle.codes.proofs.InLaws.{or-where, or-true, in-append}
 use Rattle.codes_asking.specs.Workers.{itself, badIn, leastBad}

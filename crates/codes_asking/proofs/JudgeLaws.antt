@@ -14,14 +14,14 @@ use Rattle.refusal.specs.declared.Verdict.the-variants.{Accepted, Refused, Unso
 use Rattle.refusal.specs.Refusals.{isAccepted, indexOf}
 use Rattle.refusal.proofs.VerdictLaws.{refused-leaves, turned-back, let-pass}
 use Rattle.refusal.proofs.GateLaws.{gate-open, gate-shut}
-use Rattle.microscope.specs.declared.MicroCm.{MicroCm}
-use Rattle.microscope.specs.Sketch.{cellsOf, keyCells}
-use Rattle.microscope.specs.Audit.{firstUnsound}
-use Rattle.microscope.specs.Refusals.{allBelow, keyFits, refuseSketch, refuseUnsound, sketchVerdict}
-use Rattle.microscope.specs.Workers.{Ready}
-use Rattle.microscope.proofs.AddressLaws.{product-le}
-use Rattle.microscope.proofs.SketchGates.{sketch-gate}
-use Rattle.microscope.proofs.ReadyLaws.{ready-of}
+use Rattle.sketch.specs.declared.MicroCm.{MicroCm}
+use Rattle.sketch.specs.Sketch.{cellsOf, keyCells}
+use Rattle.sketch.specs.Audit.{firstUnsound}
+use Rattle.sketch.specs.Refusals.{allBelow, keyFits, refuseSketch, refuseUnsound, sketchVerdict}
+use Rattle.sketch.specs.Workers.{Ready}
+use Rattle.sketch.proofs.AddressLaws.{product-le}
+use Rattle.sketch.proofs.SketchGates.{sketch-gate}
+use Rattle.sketch.proofs.ReadyLaws.{ready-of}
 use Rattle.codes.specs.declared.Watch.{Watch}
 use Rattle.codes.specs.Codes.{codeIn, onto}
 use Rattle.codes.specs.Refusals.{keptFit, askVerdict, listedOf, askedOf, askOutcome, askCall}

@@ -12,12 +12,12 @@ use lib.Ieee.{Float}
 use lib.ListN.{length, getD, take, drop, set, length-append, length-set}
 use lib.Seq.{drop-cons, set-at}
 use borrow.Author.Tests.{eq-eqb, ne-eqb, not-true, not-false}
-use Rattle.microscope.specs.declared.MicroCm.{MicroCm}
-use Rattle.microscope.specs.Figures.{overOf}
-use Rattle.microscope.specs.Workers.{Readable}
-use Rattle.microscope.proofs.AddressLaws.{product-le}
-use Rattle.figures.specs.declared.Estimated.{Estimated}
-use Rattle.figures.specs.Workers.{estimateOf}
+use Rattle.sketch.specs.declared.MicroCm.{MicroCm}
+use Rattle.sketch.specs.Figures.{overOf}
+use Rattle.sketch.specs.Workers.{Readable}
+use Rattle.sketch.proofs.AddressLaws.{product-le}
+use Rattle.sketch_reading_figures.specs.declared.Estimated.{Estimated}
+use Rattle.sketch_reading_figures.specs.Workers.{estimateOf}
 use Rattle.codes.specs.Codes.{codeIn, reachedAt, newly, flagAt, flagsOf}
 use Rattle.codes.proofs.FlagLaws.{flags-below}
 use Rattle.codes.proofs.CodeLaws.{code-inside}

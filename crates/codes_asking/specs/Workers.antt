@@ -4,11 +4,11 @@ use mathlib.Core.Path.{_≡_}
 use mathlib.Core.Bool.{Bool, true, cond}
 use mathlib.Core.List.{List}
 use lib.ListN.{length, set, take}
-use Rattle.microscope.specs.declared.MicroCm.{MicroCm}
-use Rattle.microscope.specs.Sketch.{cellsOf, keyCells}
-use Rattle.microscope.specs.Audit.{firstUnsound}
-use Rattle.microscope.specs.Refusals.{allBelow, keyFits}
-use Rattle.microscope.specs.Workers.{Ready, Readable}
+use Rattle.sketch.specs.declared.MicroCm.{MicroCm}
+use Rattle.sketch.specs.Sketch.{cellsOf, keyCells}
+use Rattle.sketch.specs.Audit.{firstUnsound}
+use Rattle.sketch.specs.Refusals.{allBelow, keyFits}
+use Rattle.sketch.specs.Workers.{Ready, Readable}
 use Rattle.codes.specs.Codes.{codeIn, reachedAt, newly, flagAt, flagsOf, onto}
 use Rattle.codes_asking.specs.declared.pass.Found.{Found}
 

@@ -1,8 +1,8 @@
 // What is judged before an asking: 1 to 6, the kept columns, how many codes there are, the room for the list, and then the
 // cells of all the codes and no others. Nothing is written here.
 use codes::Watch;
-use microscope::MicroCm;
 use refusal::Verdict;
+use sketch::MicroCm;
 ghost use mathlib.Core.Path.{_≡_};
 ghost use Prim.Native.Nat.{_≤_, min};
 ghost use lib.ListN.{length};
@@ -27,7 +27,7 @@ fn kept_fit(sketch: MicroCm, watch: Watch, columns: &[u32]) -> bool
         return false;
     }
     let size = smaller(watch.count, 64) * sketch.rows;
-    microscope::judge::all_below(&columns[..size], sketch.cols)
+    sketch_judging::judge::all_below(&columns[..size], sketch.cols)
 }
 
 // The first unsound cell of a code, in grid order; the number of cells if it has none.
@@ -38,7 +38,7 @@ fn code_bad(sketch: MicroCm, columns: &[u32], code: usize, grid: &[u8]) -> usize
     let rows = sketch.rows;
     let start = code * rows;
     let end = start + rows;
-    let verdict = microscope::judge::key_cells(sketch, &columns[start..end], grid);
+    let verdict = sketch_judging::judge::key_cells(sketch, &columns[start..end], grid);
     if verdict.accepted() {
         return rows * sketch.cols;
     }
@@ -63,7 +63,7 @@ pub fn asking(sketch: MicroCm, watch: Watch, columns: &[u32], grid: &[u8], room:
     requires { ⌜ length (now columns) ≡ 8192 ⌝ }
     ensures { λ r. ⌜ r ≡ askVerdict sketch watch (now (columns .entry)) (now (grid .entry)) room ⌝ }
 {
-    let verdict = microscope::judge::sketch(sketch, grid);
+    let verdict = sketch_judging::judge::sketch(sketch, grid);
     if !verdict.accepted() {
         return verdict;
     }

@@ -4,7 +4,7 @@ mod pass;
 
 use codes::AskAnswer;
 use codes::Watch;
-use microscope::MicroCm;
+use sketch::MicroCm;
 ghost use mathlib.Core.Path.{_≡_};
 ghost use Rattle.codes.specs.Refusals.{askOutcome, askCall};
 

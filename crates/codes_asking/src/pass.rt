@@ -1,10 +1,10 @@
 // The pass over the codes, once everything is judged.
-use microscope::MicroCm;
+use sketch::MicroCm;
 ghost use mathlib.Core.Path.{_≡_};
 ghost use mathlib.Core.Bool.{not, cond, _&&_};
 ghost use Prim.Native.Nat.{_+_, _^_, _<_};
 ghost use lib.ListN.{length};
-ghost use Rattle.microscope.specs.Figures.{overOf};
+ghost use Rattle.sketch.specs.Figures.{overOf};
 ghost use Rattle.codes.specs.Codes.{codeIn, flagAt};
 ghost use Rattle.codes_asking.specs.Workers.{Askable, Room, Noted, Told};
 
@@ -22,7 +22,7 @@ fn code_over(sketch: MicroCm, columns: &[u32], code: usize, grid: &[u8]) -> u64
     let rows = sketch.rows;
     let start = code * rows;
     let end = start + rows;
-    let figures = figures::estimate(sketch, grid, &columns[start..end], 0.0);
+    let figures = sketch_reading_figures::estimate(sketch, grid, &columns[start..end], 0.0);
     figures.over
 }
 

@@ -15,10 +15,10 @@ use Rattle.refusal.specs.declared.Verdict.the-variants.{Accepted, Refused}
 use Rattle.refusal.specs.Refusals.{isAccepted}
 use Rattle.refusal.proofs.VerdictLaws.{refused-leaves, turned-back, let-pass}
 use Rattle.refusal.proofs.GateLaws.{gate-open, gate-shut, gate-passed}
-use Rattle.microscope.specs.declared.MicroCm.{MicroCm}
-use Rattle.microscope.specs.Refusals.{allBelow}
-use Rattle.microscope.proofs.SettingsLaws.{good-settings}
-use Rattle.microscope.proofs.SketchGates.{settingsOf, settings-gate, judged, judged-gate}
+use Rattle.sketch.specs.declared.MicroCm.{MicroCm}
+use Rattle.sketch.specs.Refusals.{allBelow}
+use Rattle.sketch.proofs.SettingsLaws.{good-settings}
+use Rattle.sketch.proofs.SketchGates.{settingsOf, settings-gate, judged, judged-gate}
 use Rattle.store_header.specs.Refusals.{lengthVerdict}
 use Rattle.codes.specs.declared.Watch.{Watch}
 use Rattle.codes.specs.Codes.{onto}

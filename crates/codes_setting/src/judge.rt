@@ -1,6 +1,6 @@
 // What is judged before a list is kept: 1 to 5, the columns of all codes given, then how many they are. No cell is looked at.
-use microscope::MicroCm;
 use refusal::Verdict;
+use sketch::MicroCm;
 ghost use mathlib.Core.Path.{_≡_};
 ghost use Prim.Native.Nat.{_*_, _<_};
 ghost use lib.Dec.{eqb};
@@ -26,7 +26,7 @@ fn codes_fit(sketch: MicroCm, columns: &[u32], count: usize) -> bool
     ensures { λ r. ⌜ r ≡ codesFit sketch (now (columns .entry)) count ⌝ }
 {
     if even(columns.len(), count, sketch.rows) {
-        return microscope::judge::all_below(columns, sketch.cols);
+        return sketch_judging::judge::all_below(columns, sketch.cols);
     }
     false
 }

@@ -3,7 +3,7 @@ mod judge;
 
 use codes::Watch;
 use codes::WatchAnswer;
-use microscope::MicroCm;
+use sketch::MicroCm;
 ghost use mathlib.Core.Path.{_≡_};
 ghost use Prim.Native.Nat.{_≤_};
 ghost use lib.ListN.{length};

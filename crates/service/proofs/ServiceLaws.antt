@@ -2,8 +2,8 @@
 use mathlib.Core.Path.{_≡_, ap}
 use mathlib.Core.List.{List}
 use Prim.Native.Nat.{ℕ}
-use Rattle.microscope.specs.declared.SketchAnswer.{SketchAnswer}
-use Rattle.microscope.specs.Refusals.{SketchOutcome, sketchOutcome}
+use Rattle.sketch.specs.declared.SketchAnswer.{SketchAnswer}
+use Rattle.sketch.specs.Refusals.{SketchOutcome, sketchOutcome}
 use Rattle.store.specs.declared.LoadAnswer.{LoadAnswer}
 use Rattle.store.specs.Refusals.{LoadOutcome, loadOutcome}
 use Rattle.service.specs.declared.ServiceAnswer.{ServiceAnswer}

@@ -4,8 +4,8 @@ use mathlib.Core.List.{List}
 use Rattle.refusal.specs.declared.Verdict.{Verdict}
 use Rattle.cell.specs.declared.MicroParams.{MicroParams}
 use Rattle.clock.specs.declared.SubWindowClock.{SubWindowClock}
-use Rattle.microscope.specs.declared.MicroCm.{MicroCm}
-use Rattle.microscope.specs.Refusals.{SketchOutcome, freshCall}
+use Rattle.sketch.specs.declared.MicroCm.{MicroCm}
+use Rattle.sketch.specs.Refusals.{SketchOutcome, freshCall}
 use Rattle.store.specs.Refusals as stored
 use Rattle.codes.specs.Codes.{noCodes}
 use Rattle.service.specs.declared.ServiceAnswer.{ServiceAnswer}

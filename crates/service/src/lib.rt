@@ -3,8 +3,8 @@
 use cell::MicroParams;
 use clock::SubWindowClock;
 use codes::Watch;
-use microscope::MicroCm;
 use refusal::Verdict;
+use sketch::MicroCm;
 ghost use mathlib.Core.Path.{_≡_};
 ghost use Rattle.service.specs.Service.{served, serviceOutcome, startCall, loadCall};
 
@@ -47,7 +47,7 @@ impl Service {
     ) -> ServiceAnswer
         ensures { λ r. ⌜ serviceOutcome r (now (grid .exit)) ≡ startCall rows cols params clock seed (now (grid .entry)) ⌝ }
     {
-        let answer = MicroCm::with_dimensions(rows, cols, params, clock, seed, grid);
+        let answer = sketch_start::with_dimensions(rows, cols, params, clock, seed, grid);
         let verdict = answer.verdict;
         let sketch = answer.sketch;
         without_codes(verdict, sketch)

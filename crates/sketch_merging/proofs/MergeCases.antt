@@ -13,15 +13,15 @@ use Rattle.refusal.specs.Refusals.{isAccepted, refuse}
 use Rattle.refusal.proofs.VerdictLaws.{refused-leaves, turned-back, let-pass, not-refused}
 use Rattle.refusal.proofs.GateLaws.{both-accepted, gate-passed}
 use Rattle.clock.specs.Clock.{GoodLength, nOf, sameFrame}
-use Rattle.microscope.specs.declared.MicroCm.{MicroCm}
-use Rattle.microscope.specs.declared.Passed.{Passed}
-use Rattle.microscope.specs.Sketch.{World, cellsOf, allCells}
-use Rattle.microscope.specs.Merge.{mergeEach, merged}
-use Rattle.microscope.specs.Refusals.{refuseUnsound, sketchOutcome, world, sketchVerdict, lowerOf, sameShape, mergeVerdict, mergeCall}
-use Rattle.microscope.specs.Workers.{Ready, Judged, SoundCells, passOf}
-use Rattle.microscope.proofs.JudgedLaws.{sound-cells}
-use Rattle.microscope.proofs.ReadyLaws.{ready-of}
-use Rattle.microscope.proofs.SketchGates.{unsound-gate}
+use Rattle.sketch.specs.declared.MicroCm.{MicroCm}
+use Rattle.sketch.specs.declared.Passed.{Passed}
+use Rattle.sketch.specs.Sketch.{World, cellsOf, allCells}
+use Rattle.sketch.specs.Merge.{mergeEach, merged}
+use Rattle.sketch.specs.Refusals.{refuseUnsound, sketchOutcome, world, sketchVerdict, lowerOf, sameShape, mergeVerdict, mergeCall}
+use Rattle.sketch.specs.Workers.{Ready, Judged, SoundCells, passOf}
+use Rattle.sketch.proofs.JudgedLaws.{sound-cells}
+use Rattle.sketch.proofs.ReadyLaws.{ready-of}
+use Rattle.sketch.proofs.SketchGates.{unsound-gate}
 use Rattle.sketch_merging.specs.Workers.{refusePair}
 use Rattle.sketch_merging.proofs.VerdictCases.{lower-both, pair-gate}
 

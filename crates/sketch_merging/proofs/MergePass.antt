@@ -15,14 +15,14 @@ use Rattle.cell.specs.declared.Drawn as cell
 use Rattle.cell.specs.Cell.{depthOf, soundOf, maxZoom}
 use Rattle.cell.specs.Merge.{mergeOf}
 use Rattle.cell.specs.Workers.{Fit, stepOf}
-use Rattle.merging.specs.Workers.{Pair}
+use Rattle.cell_merging.specs.Workers.{Pair}
 use Rattle.cell.proofs.PowerLaws.{max-zoom-limit}
 use Rattle.cell.proofs.MergeLaws.{merged-leaves}
-use Rattle.microscope.specs.declared.MicroCm.{MicroCm}
-use Rattle.microscope.specs.declared.Passed.{Passed}
-use Rattle.microscope.specs.Sketch.{cellsOf}
-use Rattle.microscope.specs.Merge.{mergeEach}
-use Rattle.microscope.specs.Workers.{SoundCells, passOf}
+use Rattle.sketch.specs.declared.MicroCm.{MicroCm}
+use Rattle.sketch.specs.declared.Passed.{Passed}
+use Rattle.sketch.specs.Sketch.{cellsOf}
+use Rattle.sketch.specs.Merge.{mergeEach}
+use Rattle.sketch.specs.Workers.{SoundCells, passOf}
 use Rattle.sketch_merging.specs.Workers.{mergePiece}
 
 -- a cell draws at most max_zoom times a pixel

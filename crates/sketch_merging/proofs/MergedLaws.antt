@@ -18,10 +18,10 @@ use Rattle.cell.specs.Merge.{Settled, settledLater, settleFrom}
 use Rattle.cell.specs.Workers.{Fit}
 use Rattle.cell.proofs.SumsLaws.{settles}
 use Rattle.cell.proofs.MergeLaws.{Merged, merged-leaves}
-use Rattle.microscope.specs.declared.MicroCm.{MicroCm}
-use Rattle.microscope.specs.Sketch.{cellsOf, cellOf}
-use Rattle.microscope.specs.Merge.{mergeCell, mergeEach}
-use Rattle.microscope.specs.Workers.{SoundCells}
+use Rattle.sketch.specs.declared.MicroCm.{MicroCm}
+use Rattle.sketch.specs.Sketch.{cellsOf, cellOf}
+use Rattle.sketch.specs.Merge.{mergeCell, mergeEach}
+use Rattle.sketch.specs.Workers.{SoundCells}
 
 module _ (k : MicroCm) (n : ℕ) (other g : List ℕ) (σ : ℕ) (ok : SoundCells (k .params .t) (k .params .c) (cellsOf k) g) (ok' : SoundCells (k .params .t) (k .params .c) (cellsOf k) other) where
   abbrev depth : ℕ

@@ -11,8 +11,8 @@ use Rattle.refusal.specs.Refusals.{refuse}
 use Rattle.cell.specs.Cell.{depthOf}
 use Rattle.cell.specs.Merge.{mergeOf}
 use Rattle.clock.specs.Clock.{nOf, sameFrame}
-use Rattle.microscope.specs.declared.MicroCm.{MicroCm}
-use Rattle.microscope.specs.Refusals.{sameShape}
+use Rattle.sketch.specs.declared.MicroCm.{MicroCm}
+use Rattle.sketch.specs.Refusals.{sameShape}
 
 -- 10, 11 and 12
 abbrev pub refusePair : MicroCm → MicroCm → Verdict → Verdict

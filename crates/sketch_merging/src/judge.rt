@@ -1,10 +1,10 @@
 // Document 01, "Turning a call back": the verdict of a merge, lowest number first. Nothing is written here.
-use microscope::MicroCm;
 use refusal::Verdict;
+use sketch::MicroCm;
 ghost use mathlib.Core.Path.{_≡_};
 ghost use Rattle.refusal.specs.declared.Verdict.the-variants.{Accepted};
 ghost use Rattle.clock.specs.Clock.{GoodLength};
-ghost use Rattle.microscope.specs.Refusals.{lowerOf, sameShape, mergeVerdict};
+ghost use Rattle.sketch.specs.Refusals.{lowerOf, sameShape, mergeVerdict};
 ghost use Rattle.sketch_merging.specs.Workers.{refusePair};
 
 // Of two verdicts the one that turns the call back, and by the lower number if both do.
@@ -64,8 +64,8 @@ pub fn merge(sketch: MicroCm, grid: &[u8], other: MicroCm, other_grid: &[u8]) ->
     ensures { λ r. ⌜ r ≡ mergeVerdict sketch (now (grid .entry)) other (now («other_grid» .entry)) ⌝ }
 {
     let settings = lower(
-        microscope::judge::sketch(sketch, grid),
-        microscope::judge::sketch(other, other_grid),
+        sketch_judging::judge::sketch(sketch, grid),
+        sketch_judging::judge::sketch(other, other_grid),
     );
     if !settings.accepted() {
         return settings;
@@ -74,9 +74,9 @@ pub fn merge(sketch: MicroCm, grid: &[u8], other: MicroCm, other_grid: &[u8]) ->
     if !paired.accepted() {
         return paired;
     }
-    let received = microscope::judge::all_cells(sketch, grid);
+    let received = sketch_judging::judge::all_cells(sketch, grid);
     if !received.accepted() {
         return received;
     }
-    microscope::judge::all_cells(other, other_grid)
+    sketch_judging::judge::all_cells(other, other_grid)
 }

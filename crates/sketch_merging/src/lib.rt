@@ -2,11 +2,11 @@
 pub mod judge;
 pub mod pass;
 
-use microscope::MicroCm;
-use microscope::SketchAnswer;
 use rounding::Rounding;
+use sketch::MicroCm;
+use sketch::SketchAnswer;
 ghost use mathlib.Core.Path.{_≡_};
-ghost use Rattle.microscope.specs.Refusals.{sketchOutcome, mergeCall};
+ghost use Rattle.sketch.specs.Refusals.{sketchOutcome, mergeCall};
 
 // Adds the counts of `other` to those of a sketch of the same shape at the same sub-window. `other` is only read, and of
 // the sketch only the grid and the random state change.

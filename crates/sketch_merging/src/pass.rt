@@ -1,14 +1,14 @@
 // Document 01, "Merge": a pass over the cells of two grids. Callers have judged both sketches and all their cells.
-use microscope::MicroCm;
-use microscope::Passed;
+use sketch::MicroCm;
+use sketch::Passed;
 ghost use mathlib.Core.Path.{_≡_};
 ghost use Prim.Native.Nat.{_*_, _≤_};
 ghost use lib.ListN.{length};
 ghost use Rattle.laws.specs.Passes.{eachOf};
 ghost use Rattle.cell.specs.Cell.{depthOf};
-ghost use Rattle.microscope.specs.Sketch.{cellsOf, allCells};
-ghost use Rattle.microscope.specs.Merge.{mergeEach};
-ghost use Rattle.microscope.specs.Workers.{Ready, Judged, SoundCells, passOf};
+ghost use Rattle.sketch.specs.Sketch.{cellsOf, allCells};
+ghost use Rattle.sketch.specs.Merge.{mergeEach};
+ghost use Rattle.sketch.specs.Workers.{Ready, Judged, SoundCells, passOf};
 ghost use Rattle.sketch_merging.specs.Workers.{mergePiece};
 
 // So many cells, one after another.
@@ -26,15 +26,15 @@ fn merge_cells(
     requires { ⌜ length (now work) ≡ 4098 ⌝ }
     ensures { λ r. ⌜ passOf (now (grid .exit)) r ≡ eachOf (mergePiece t c n (now (other .entry))) (depthOf t) 0 count (now (grid .entry)) state ⌝ }
 {
-    let depth = cell::layout::depth(t);
-    let slot = cell::layout::slot(t, n);
+    let depth = cell_layout::fields::depth(t);
+    let slot = cell_layout::fields::slot(t, n);
     let mut after = state;
     let mut draws: u64 = 0;
     let mut start: usize = 0;
     let mut index: usize = 0;
     while index < count {
         let end = start + depth;
-        let drawn = merging::merge::merge_within(
+        let drawn = cell_merging::merge::merge_within(
             &mut grid[start..end],
             &other[start..end],
             work,

@@ -7,9 +7,9 @@ use Rattle.refusal.specs.declared.Verdict.the-variants.{Accepted}
 use Rattle.refusal.specs.Refusals.{whenAccepted}
 use Rattle.refusal.specs.Causes.{firstOf, numbersOf, placeIn, rankedFrom}
 use Rattle.refusal.proofs.CauseLaws.{first-append}
-use Rattle.microscope.specs.declared.MicroCm.{MicroCm}
-use Rattle.microscope.specs.Sketch.{allCells}
-use Rattle.microscope.proofs.CauseTheorems.{one-cause}
+use Rattle.sketch.specs.declared.MicroCm.{MicroCm}
+use Rattle.sketch.specs.Sketch.{allCells}
+use Rattle.sketch.proofs.CauseTheorems.{one-cause}
 use Rattle.store_header.specs.Header.{sketchIn}
 use Rattle.store_header.specs.Causes.{headerCauses}
 use Rattle.store_header.proofs.CauseTheorems.{header-calls}

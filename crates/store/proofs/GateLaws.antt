@@ -7,7 +7,7 @@ use lib.ListN.{length}
 use Rattle.refusal.specs.Refusals.{refuse}
 use Rattle.refusal.proofs.VerdictLaws.{refuse-then}
 use Rattle.refusal.proofs.GateLaws.{Gate, gate-chain}
-use Rattle.blocks.specs.Blocks.{blocksPass}
+use Rattle.store_blocks.specs.Blocks.{blocksPass}
 use Rattle.store.specs.Refusals.{refuseBlocks}
 
 -- 16 and 17 over the blocks

@@ -15,16 +15,16 @@ use Rattle.refusal.specs.declared.Verdict.{Verdict}
 use Rattle.refusal.specs.declared.Verdict.the-variants.{Accepted, Refused, Unsound}
 use Rattle.cell.specs.Cell.{pixelsOf, zoomAt, shutterAt, depthOf, zoomOf, shutterOf, maxZoom, soundOf}
 use Rattle.cell.proofs.SoundLaws.{sound-read}
-use Rattle.microscope.specs.declared.MicroCm.{MicroCm}
-use Rattle.microscope.specs.Sketch.{cellsOf, gridBytes, cellOf, allCells}
-use Rattle.microscope.specs.Refusals.{refuseUnsound}
-use Rattle.microscope.proofs.JudgeLoops.{AllLeft, all-begin, all-found, all-on, all-end}
-use Rattle.blocks.specs.Blocks.{blocksPass, allZero, carried}
+use Rattle.sketch.specs.declared.MicroCm.{MicroCm}
+use Rattle.sketch.specs.Sketch.{cellsOf, gridBytes, cellOf, allCells}
+use Rattle.sketch.specs.Refusals.{refuseUnsound}
+use Rattle.sketch.proofs.JudgeLoops.{AllLeft, all-begin, all-found, all-on, all-end}
+use Rattle.store_blocks.specs.Blocks.{blocksPass, allZero, carried}
 use Rattle.store_header.specs.Refusals.{lengthVerdict}
 use Rattle.store.specs.Store.{storeLength}
 use Rattle.store.specs.Refusals.{refuseBlocks, gridIn, gridVerdict}
 use Rattle.store.specs.Workers.{Sized, Stored}
-use Rattle.blocks.proofs.FillLaws.{part-take, part-part}
+use Rattle.store_blocks.proofs.FillLaws.{part-take, part-part}
 use Rattle.store.proofs.SettingsLaws.{settings-good, cells-limit, grid-limit}
 
 -- THE GRID'S BYTES

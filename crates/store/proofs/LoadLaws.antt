@@ -8,10 +8,10 @@ use lib.ListN.{length, drop}
 use borrow.Author.Tests.{eqb-true, eq-eqb, not-false}
 use Rattle.refusal.specs.declared.Verdict.the-variants.{Accepted}
 use Rattle.refusal.proofs.VerdictLaws.{not-refused}
-use Rattle.microscope.specs.declared.MicroCm.{MicroCm}
-use Rattle.microscope.specs.Sketch.{gridBytes, allCells}
-use Rattle.microscope.specs.Refusals.{refuseUnsound}
-use Rattle.blocks.specs.Blocks.{blocksPass, allZero, carried}
+use Rattle.sketch.specs.declared.MicroCm.{MicroCm}
+use Rattle.sketch.specs.Sketch.{gridBytes, allCells}
+use Rattle.sketch.specs.Refusals.{refuseUnsound}
+use Rattle.store_blocks.specs.Blocks.{blocksPass, allZero, carried}
 use Rattle.store_header.specs.Header.{sketchIn}
 use Rattle.store_header.specs.Refusals.{lengthVerdict, wrongForm, headerVerdict}
 use Rattle.store.specs.Store.{storeLength}

@@ -14,15 +14,15 @@ use Rattle.refusal.specs.declared.Verdict.the-variants.{Accepted}
 use Rattle.refusal.specs.declared.Verdict.the-variants as verdict
 use Rattle.refusal.specs.Refusals.{isAccepted, whenAccepted}
 use Rattle.refusal.proofs.VerdictLaws.{refused-leaves, turned-back, let-pass, not-refused}
-use Rattle.microscope.specs.declared.MicroCm.{MicroCm}
-use Rattle.microscope.specs.Refusals.{noSketch}
+use Rattle.sketch.specs.declared.MicroCm.{MicroCm}
+use Rattle.sketch.specs.Refusals.{noSketch}
 use Rattle.store.specs.declared.LoadAnswer.{LoadAnswer}
 use Rattle.store_header.specs.declared.Header.{Header}
 use Rattle.store_header.specs.declared.Header.the-variants.{Sketch, Refused}
-use Rattle.blocks.specs.Blocks.{carried}
+use Rattle.store_blocks.specs.Blocks.{carried}
 use Rattle.store_header.specs.Refusals.{lengthVerdict, wrongForm, headerVerdict, headerIn, headerNumber}
 use Rattle.store.specs.Refusals.{refuseBlocks, headerPayload, gridVerdict, loadVerdict, loadAnswer, loadOutcome, loadCall}
-use Rattle.blocks.proofs.FillLaws.{part-take}
+use Rattle.store_blocks.proofs.FillLaws.{part-take}
 use Rattle.store_header.proofs.HeaderLaws.{neither}
 use Rattle.store_header.proofs.AnswerLaws.{header-refused, sketch-said}
 use Rattle.refusal.proofs.GateLaws.{gate-open, gate-shut}

@@ -11,20 +11,20 @@ use Rattle.refusal.specs.declared.Verdict.{Verdict}
 use Rattle.refusal.specs.declared.Verdict.the-variants.{Accepted, Refused}
 use Rattle.refusal.specs.Refusals.{isAccepted}
 use Rattle.refusal.proofs.VerdictLaws.{refused-leaves, turned-back, let-pass}
-use Rattle.microscope.specs.declared.MicroCm.{MicroCm}
-use Rattle.microscope.specs.Sketch.{gridBytes, allCells}
-use Rattle.microscope.specs.Refusals.{refuseGrid, refuseSketch, refuseUnsound, sketchVerdict}
-use Rattle.microscope.specs.Workers.{Ready}
-use Rattle.blocks.specs.Blocks.{blockOf, blocksFrom}
+use Rattle.sketch.specs.declared.MicroCm.{MicroCm}
+use Rattle.sketch.specs.Sketch.{gridBytes, allCells}
+use Rattle.sketch.specs.Refusals.{refuseGrid, refuseSketch, refuseUnsound, sketchVerdict}
+use Rattle.sketch.specs.Workers.{Ready}
+use Rattle.store_blocks.specs.Blocks.{blockOf, blocksFrom}
 use Rattle.store_header.specs.Header.{headerOf}
 use Rattle.store_header.specs.Refusals.{lengthVerdict}
 use Rattle.store.specs.Store.{gridBlocks, storeLength, storeOf}
 use Rattle.store.specs.Refusals.{lengthCall, refuseLength, saveVerdict, saveOutcome, saveCall}
 use Rattle.store.specs.Workers.{Sized}
-use Rattle.blocks.proofs.BlockLaws.{block-length}
+use Rattle.store_blocks.proofs.BlockLaws.{block-length}
 use Rattle.refusal.proofs.GateLaws.{gate-open, gate-shut, gate-passed}
-use Rattle.microscope.proofs.ReadyLaws.{ready-of}
-use Rattle.microscope.proofs.SketchGates.{judged, judged-gate, sketch-gate, unsound-gate}
+use Rattle.sketch.proofs.ReadyLaws.{ready-of}
+use Rattle.sketch.proofs.SketchGates.{judged, judged-gate, sketch-gate, unsound-gate}
 
 -- THE EXACT LENGTH
 module _ (k : MicroCm) (v : Verdict) (ok : Bool) (ev : v ≡ lengthVerdict k) (asked : ok ≡ isAccepted v) where

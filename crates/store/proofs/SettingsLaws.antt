@@ -7,15 +7,15 @@ use native.Mathlib.Nat.{mul-le-mul}
 use Rattle.refusal.specs.declared.Verdict.the-variants.{Accepted}
 use Rattle.rounding.specs.Refusals.{refuseState}
 use Rattle.cell.specs.Cell.{depthOf}
-use Rattle.microscope.specs.declared.MicroCm.{MicroCm}
-use Rattle.microscope.specs.Sketch.{cellsOf, gridBytes}
-use Rattle.microscope.proofs.SettingsLaws.{GoodSettings, good-settings}
+use Rattle.sketch.specs.declared.MicroCm.{MicroCm}
+use Rattle.sketch.specs.Sketch.{cellsOf, gridBytes}
+use Rattle.sketch.proofs.SettingsLaws.{GoodSettings, good-settings}
 use Rattle.store_header.specs.Header.{epochOf, readingOf}
 use Rattle.store_header.specs.Refusals.{lengthVerdict}
 use Rattle.store.specs.Store.{gridBlocks}
 use Rattle.store_header.proofs.HeaderLaws.{Fits}
 use Rattle.refusal.proofs.GateLaws.{gate-passed}
-use Rattle.microscope.proofs.SketchGates.{settingsOf, settings-gate}
+use Rattle.sketch.proofs.SketchGates.{settingsOf, settings-gate}
 
 -- what the code's words hold beside the settings
 pub record Ranged (k : MicroCm) : Type 0 where

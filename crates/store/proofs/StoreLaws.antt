@@ -8,14 +8,14 @@ use native.Mathlib.Omega.{arith}
 use Rattle.laws.specs.Bytes.{bytesOf}
 use Rattle.laws.proofs.ByteLaws.{bytes-small}
 use Rattle.clock.specs.Clock.{lengthOf}
-use Rattle.microscope.specs.declared.MicroCm.{MicroCm}
-use Rattle.blocks.specs.Blocks.{filled, blockOf, blocksFrom, blocksPass, carried}
+use Rattle.sketch.specs.declared.MicroCm.{MicroCm}
+use Rattle.store_blocks.specs.Blocks.{filled, blockOf, blocksFrom, blocksPass, carried}
 use Rattle.store_header.specs.Header.{headerOf, kindOf, epochOf, readingOf}
 use Rattle.store.specs.Store.{gridBlocks, storeLength, storeOf}
 use Rattle.store.specs.Refusals.{headerPayload}
-use Rattle.blocks.proofs.FillLaws.{Small, small-append}
-use Rattle.blocks.proofs.BlockLaws.{block-length, block-payload, block-passes}
-use Rattle.blocks.proofs.ChainLaws.{from-length, from-passes, from-payloads, first-taken, first-dropped, pass-suc}
+use Rattle.store_blocks.proofs.FillLaws.{Small, small-append}
+use Rattle.store_blocks.proofs.BlockLaws.{block-length, block-payload, block-passes}
+use Rattle.store_blocks.proofs.ChainLaws.{from-length, from-passes, from-payloads, first-taken, first-dropped, pass-suc}
 
 header-small : (k : MicroCm) → Small (headerOf k)
 unfolding headerOf

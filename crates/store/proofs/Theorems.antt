@@ -12,21 +12,21 @@ use Rattle.laws.proofs.PartLaws.{part-length}
 use Rattle.refusal.specs.declared.Verdict.{Verdict}
 use Rattle.refusal.specs.declared.Verdict.the-variants.{Accepted, Refused}
 use Rattle.refusal.proofs.VerdictLaws.{not-refused}
-use Rattle.microscope.specs.declared.MicroCm.{MicroCm}
-use Rattle.microscope.specs.Sketch.{gridBytes, allCells}
-use Rattle.microscope.specs.Refusals.{refuseSketch, refuseUnsound, noSketch}
-use Rattle.blocks.specs.Blocks.{filled, blockOf, blocksFrom, blockPasses, blocksPass, payloadsOf, carried}
+use Rattle.sketch.specs.declared.MicroCm.{MicroCm}
+use Rattle.sketch.specs.Sketch.{gridBytes, allCells}
+use Rattle.sketch.specs.Refusals.{refuseSketch, refuseUnsound, noSketch}
+use Rattle.store_blocks.specs.Blocks.{filled, blockOf, blocksFrom, blockPasses, blocksPass, payloadsOf, carried}
 use Rattle.store_header.specs.Header.{headerOf}
 use Rattle.store_header.specs.Refusals.{lengthVerdict}
 use Rattle.store.specs.Store.{storeOf, gridBlocks}
 use Rattle.store.specs.Refusals.{headerPayload, refuseLength, loadVerdict, loadAnswer, loadOutcome, loadCall, saveVerdict, saveOutcome, saveCall}
-use Rattle.blocks.proofs.FillLaws.{Small, small-take, small-drop, filled-full, behind-zero, cut-alike}
-use Rattle.blocks.proofs.BlockLaws.{block-same, block-back}
-use Rattle.blocks.proofs.ChainLaws.{pass-suc, blocks-changed, blocks-back, from-alike}
-use Rattle.blocks.proofs.ChainLoops.{carried-length}
+use Rattle.store_blocks.proofs.FillLaws.{Small, small-take, small-drop, filled-full, behind-zero, cut-alike}
+use Rattle.store_blocks.proofs.BlockLaws.{block-same, block-back}
+use Rattle.store_blocks.proofs.ChainLaws.{pass-suc, blocks-changed, blocks-back, from-alike}
+use Rattle.store_blocks.proofs.ChainLoops.{carried-length}
 use Rattle.store_header.proofs.HeaderLaws.{header-form, header-sketch, header-back}
 use Rattle.refusal.proofs.GateLaws.{gate-passed, gate-open}
-use Rattle.microscope.proofs.SketchGates.{judged, judged-gate, unsound-gate}
+use Rattle.sketch.proofs.SketchGates.{judged, judged-gate, unsound-gate}
 use Rattle.store.proofs.SettingsLaws.{Ranged, settings-fit, blocks-few}
 use Rattle.store.proofs.StoreLaws.{store-length, store-header, store-carries, store-passes}
 use Rattle.store.proofs.LoadLaws.{sketchOf, gridOf, Loadable, accepted-loadable, loadable-accepted}

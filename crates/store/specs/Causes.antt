@@ -2,10 +2,10 @@
 use Prim.Native.Nat.{ℕ}
 use mathlib.Core.List.{List, [], _∷_, _++_}
 use Rattle.refusal.specs.Causes.{Cause, Told, ToldInLoadOrder}
-use Rattle.microscope.specs.declared.MicroCm.{MicroCm}
-use Rattle.microscope.specs.Sketch.{allCells}
-use Rattle.microscope.specs.Refusals.{badGrid, badCells}
-use Rattle.microscope.specs.Causes.{sketchCauses}
+use Rattle.sketch.specs.declared.MicroCm.{MicroCm}
+use Rattle.sketch.specs.Sketch.{allCells}
+use Rattle.sketch.specs.Refusals.{badGrid, badCells}
+use Rattle.sketch.specs.Causes.{sketchCauses}
 use Rattle.store_header.specs.Header.{sketchIn}
 use Rattle.store_header.specs.Causes.{headerCauses}
 use Rattle.store.specs.Refusals.{otherLength, noBlocks, badBlock, badFill, gridIn, headerPayload, saveVerdict, loadVerdict}

@@ -8,12 +8,12 @@ use Rattle.refusal.specs.declared.Verdict.{Verdict}
 use Rattle.refusal.specs.declared.Verdict.the-variants as verdict
 use Rattle.refusal.specs.Refusals.{whenAccepted}
 use Rattle.refusal.specs.Causes.{Cause, cause, refuseBy}
-use Rattle.microscope.specs.declared.MicroCm.{MicroCm}
-use Rattle.microscope.specs.Sketch.{gridBytes, allCells}
-use Rattle.microscope.specs.Refusals.{refuseGrid, refuseSketch, refuseUnsound, noSketch}
+use Rattle.sketch.specs.declared.MicroCm.{MicroCm}
+use Rattle.sketch.specs.Sketch.{gridBytes, allCells}
+use Rattle.sketch.specs.Refusals.{refuseGrid, refuseSketch, refuseUnsound, noSketch}
 use Rattle.store.specs.declared.LengthAnswer.{LengthAnswer}
 use Rattle.store.specs.declared.LoadAnswer.{LoadAnswer}
-use Rattle.blocks.specs.Blocks.{blockBytes, blocksPass, payloadOf, allZero, carried}
+use Rattle.store_blocks.specs.Blocks.{blockBytes, blocksPass, payloadOf, allZero, carried}
 use Rattle.store_header.specs.Header.{sketchIn}
 use Rattle.store_header.specs.Refusals.{lengthVerdict, headerVerdict}
 use Rattle.store.specs.Store.{storeLength, storeOf}

@@ -1,9 +1,9 @@
 -- Document 01, "Audit and block store": the store of a sketch with its grid.
 use Prim.Native.Nat.{ℕ, _+_, _*_, _/_}
 use mathlib.Core.List.{List, _++_}
-use Rattle.microscope.specs.declared.MicroCm.{MicroCm}
-use Rattle.microscope.specs.Sketch.{gridBytes}
-use Rattle.blocks.specs.Blocks.{blockBytes, payloadBytes, blockOf, blocksFrom}
+use Rattle.sketch.specs.declared.MicroCm.{MicroCm}
+use Rattle.sketch.specs.Sketch.{gridBytes}
+use Rattle.store_blocks.specs.Blocks.{blockBytes, payloadBytes, blockOf, blocksFrom}
 use Rattle.store_header.specs.Header.{headerOf}
 
 -- grid bytes divided by 504, rounded up

@@ -1,17 +1,17 @@
 // What a save and a load test before anything is written, each in its own order.
-use blocks::bytes;
-use blocks::chain;
-use microscope::MicroCm;
 use refusal::Verdict;
+use sketch::MicroCm;
+use store_blocks::bytes;
+use store_blocks::chain;
 ghost use mathlib.Core.Path.{_≡_};
 ghost use Prim.Native.Nat.{_+_, _-_, _*_, _/_, _≤_};
 ghost use lib.ListN.{length};
 ghost use Rattle.laws.specs.Parts.{part};
 ghost use Rattle.refusal.specs.declared.Verdict.the-variants.{Accepted};
 ghost use Rattle.cell.specs.Cell.{depthOf, soundOf};
-ghost use Rattle.microscope.specs.Sketch.{allCells};
-ghost use Rattle.microscope.specs.Refusals.{refuseUnsound};
-ghost use Rattle.blocks.specs.Blocks.{carried};
+ghost use Rattle.sketch.specs.Sketch.{allCells};
+ghost use Rattle.sketch.specs.Refusals.{refuseUnsound};
+ghost use Rattle.store_blocks.specs.Blocks.{carried};
 ghost use Rattle.store_header.specs.Refusals.{lengthVerdict};
 ghost use Rattle.store.specs.Refusals.{refuseBlocks, gridIn, gridVerdict};
 ghost use Rattle.store.specs.Workers.{Sized, Stored};
@@ -21,7 +21,7 @@ pub fn grid_bytes(sketch: MicroCm) -> usize
     ensures { λ r. ⌜ Sized sketch r ⌝ }
 {
     let params = sketch.params;
-    sketch.rows * sketch.cols * cell::layout::depth(params.t)
+    sketch.rows * sketch.cols * cell_layout::fields::depth(params.t)
 }
 
 // The length of the store of a grid of so many bytes.
@@ -40,9 +40,9 @@ fn cell_sound(sketch: MicroCm, store: &[u8], at: usize) -> bool
 {
     let params = sketch.params;
     let mut held = [0u8; 5];
-    chain::copy_out(&mut held, store, at + cell::layout::pixels(params.t));
+    chain::copy_out(&mut held, store, at + cell_layout::fields::pixels(params.t));
     let shutter = bytes::number(&held[1..5]);
-    cell::judging::fields_sound(held[0], shutter, params.c)
+    cell_judging::judge::fields_sound(held[0], shutter, params.c)
 }
 
 // 14 over the stored cells.
@@ -51,7 +51,7 @@ pub fn cells(sketch: MicroCm, store: &[u8]) -> Verdict
     ensures { λ r. ⌜ r ≡ refuseUnsound sketch (gridIn sketch (now (store .entry))) (allCells sketch) Accepted ⌝ }
 {
     let params = sketch.params;
-    let depth = cell::layout::depth(params.t);
+    let depth = cell_layout::fields::depth(params.t);
     let count = sketch.rows * sketch.cols;
     let mut index: usize = 0;
     let mut at: usize = 0;

@@ -3,19 +3,19 @@
 // A store is what is written before the key is turned off: block 0 holds the sketch, the blocks behind it the grid.
 mod judge;
 
-use blocks::block;
-use blocks::chain;
 use cell::MicroParams;
 use clock::SubWindowClock;
-use microscope::MicroCm;
 use refusal::Verdict;
 use rounding::Rounding;
+use sketch::MicroCm;
+use store_blocks::block;
+use store_blocks::chain;
 use store_header::Header;
 use store_header::fields;
 ghost use mathlib.Core.Path.{_≡_};
 ghost use lib.ListN.{length};
-ghost use Rattle.microscope.specs.Refusals.{noSketch};
-ghost use Rattle.microscope.specs.Sketch.{gridBytes};
+ghost use Rattle.sketch.specs.Refusals.{noSketch};
+ghost use Rattle.sketch.specs.Sketch.{gridBytes};
 ghost use Rattle.store.specs.Store.{storeLength, storeOf};
 ghost use Rattle.store.specs.Refusals.{lengthCall, saveOutcome, saveCall, loadAnswer, loadOutcome, loadCall};
 
@@ -58,11 +58,11 @@ fn write(store: &mut [u8], sketch: MicroCm, grid: &[u8])
 pub fn save(store: &mut [u8], sketch: MicroCm, grid: &[u8]) -> Verdict
     ensures { λ r. ⌜ saveOutcome r (now (store .exit)) ≡ saveCall sketch (now (grid .entry)) (now (store .entry)) ⌝ }
 {
-    let verdict = microscope::judge::sketch(sketch, grid);
+    let verdict = sketch_judging::judge::sketch(sketch, grid);
     if !verdict.accepted() {
         return verdict;
     }
-    let cells = microscope::judge::all_cells(sketch, grid);
+    let cells = sketch_judging::judge::all_cells(sketch, grid);
     if !cells.accepted() {
         return cells;
     }

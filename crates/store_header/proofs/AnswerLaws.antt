@@ -13,9 +13,9 @@ use Rattle.refusal.proofs.VerdictLaws.{refused-leaves, turned-back, let-pass}
 use Rattle.refusal.proofs.GateLaws.{gate-open, gate-shut}
 use Rattle.rounding.specs.Refusals.{refuseState}
 use Rattle.clock.specs.Clock.{lengthOf}
-use Rattle.microscope.specs.declared.MicroCm.{MicroCm}
-use Rattle.microscope.specs.Refusals.{gridFits}
-use Rattle.microscope.proofs.SketchGates.{settingsOf, settings-gate}
+use Rattle.sketch.specs.declared.MicroCm.{MicroCm}
+use Rattle.sketch.specs.Refusals.{gridFits}
+use Rattle.sketch.proofs.SketchGates.{settingsOf, settings-gate}
 use Rattle.store_header.specs.declared.Header.the-variants.{Sketch, Refused}
 use Rattle.store_header.specs.Header.{sketchIn}
 use Rattle.store_header.specs.Refusals.{lengthVerdict, wrongForm, headerVerdict, headerIn}

@@ -16,8 +16,8 @@ use Rattle.laws.proofs.PartLaws.{part-length, splice-taken}
 use Rattle.clock.specs.declared.SubWindowClock.{SubWindowClock}
 use Rattle.clock.specs.declared.SubWindowClock.the-variants.{CountBased, TimeBased}
 use Rattle.clock.specs.Clock.{lengthOf}
-use Rattle.microscope.specs.declared.MicroCm.{MicroCm}
-use Rattle.blocks.specs.Blocks.{allZero}
+use Rattle.sketch.specs.declared.MicroCm.{MicroCm}
+use Rattle.store_blocks.specs.Blocks.{allZero}
 use Rattle.store_header.specs.Header.{kindOf, epochOf, readingOf, headerOf, fieldOf, clockIn, sketchIn}
 use Rattle.store_header.specs.Refusals.{wrongForm}
 use Rattle.store_header.specs.Workers.{Put}

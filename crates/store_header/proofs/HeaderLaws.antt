@@ -15,11 +15,11 @@ use Rattle.laws.proofs.PartLaws.{part-length}
 use Rattle.clock.specs.declared.SubWindowClock.{SubWindowClock}
 use Rattle.clock.specs.declared.SubWindowClock.the-variants.{CountBased, TimeBased}
 use Rattle.clock.specs.Clock.{lengthOf}
-use Rattle.microscope.specs.declared.MicroCm.{MicroCm}
-use Rattle.blocks.specs.Blocks.{filled, allZero}
+use Rattle.sketch.specs.declared.MicroCm.{MicroCm}
+use Rattle.store_blocks.specs.Blocks.{filled, allZero}
 use Rattle.store_header.specs.Header.{kindOf, epochOf, readingOf, headerOf, fieldOf, clockIn, sketchIn}
 use Rattle.store_header.specs.Refusals.{wrongForm}
-use Rattle.blocks.proofs.FillLaws.{Small, small-take, small-drop, filled-is, cut-alike}
+use Rattle.store_blocks.proofs.FillLaws.{Small, small-take, small-drop, filled-is, cut-alike}
 
 -- a sketch whose numbers fit the fields
 pub record Fits (k : MicroCm) : Type 0 where

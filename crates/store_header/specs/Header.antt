@@ -8,7 +8,7 @@ use Rattle.laws.specs.Parts.{part}
 use Rattle.clock.specs.declared.SubWindowClock.{SubWindowClock}
 use Rattle.clock.specs.declared.SubWindowClock.the-variants.{CountBased, TimeBased}
 use Rattle.clock.specs.Clock.{lengthOf}
-use Rattle.microscope.specs.declared.MicroCm.{MicroCm}
+use Rattle.sketch.specs.declared.MicroCm.{MicroCm}
 
 -- WRITTEN: u32 at 0, 4, 8, 12, 16, 20; u64 at 24, 32, 40, 48; the rest 0
 abbrev pub kindOf : SubWindowClock → ℕ

@@ -9,9 +9,9 @@ use Rattle.refusal.specs.declared.Verdict.the-variants as verdict
 use Rattle.refusal.specs.Refusals.{numberOf, whenAccepted}
 use Rattle.refusal.specs.Causes.{Cause, cause, refuseBy}
 use Rattle.rounding.specs.Refusals.{refuseState}
-use Rattle.microscope.specs.declared.MicroCm.{MicroCm}
-use Rattle.microscope.specs.Refusals.{refuseSettings}
-use Rattle.blocks.specs.Blocks.{allZero}
+use Rattle.sketch.specs.declared.MicroCm.{MicroCm}
+use Rattle.sketch.specs.Refusals.{refuseSettings}
+use Rattle.store_blocks.specs.Blocks.{allZero}
 use Rattle.store_header.specs.declared.Header.{Header}
 use Rattle.store_header.specs.declared.Header.the-variants.{Sketch, Refused}
 use Rattle.store_header.specs.Header.{fieldOf, sketchIn}

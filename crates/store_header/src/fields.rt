@@ -1,11 +1,11 @@
 // The header, payload of block 0: each field where document 01 puts it, the rest 0.
 use crate::Header;
 use crate::judge;
-use blocks::bytes;
 use cell::MicroParams;
 use clock::SubWindowClock;
-use microscope::MicroCm;
 use rounding::Rounding;
+use sketch::MicroCm;
+use store_blocks::bytes;
 ghost use mathlib.Core.Path.{_≡_};
 ghost use Prim.Native.Nat.{_+_, _^_, _<_, _≤_};
 ghost use lib.ListN.{length, take, drop};

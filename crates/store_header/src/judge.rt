@@ -1,6 +1,6 @@
 // What a sketch's own numbers are refused by, before a byte of a store is made or read.
-use microscope::MicroCm;
 use refusal::Verdict;
+use sketch::MicroCm;
 ghost use mathlib.Core.Path.{_≡_};
 ghost use Rattle.store_header.specs.Refusals.{lengthVerdict};
 
@@ -11,7 +11,7 @@ pub fn settings(sketch: MicroCm) -> Verdict
     let params = sketch.params;
     let clock = sketch.clock;
     let rounding = sketch.rounding;
-    let judged = microscope::judge::settings(sketch.rows, sketch.cols, params, clock);
+    let judged = sketch_judging::judge::settings(sketch.rows, sketch.cols, params, clock);
     if !judged.accepted() {
         return judged;
     }

@@ -2,7 +2,7 @@
 pub mod fields;
 pub mod judge;
 
-use microscope::MicroCm;
+use sketch::MicroCm;
 ghost use mathlib.Core.Path.{_≡_};
 ghost use Rattle.store_header.specs.Refusals.{headerNumber};
 

@@ -1,6 +1,6 @@
 -- `merge_each`: the pieces are the cells of both sketches, each of which was judged. Assumes nothing.
-use Rattle.microscope.proofs.JudgedLaws.{sound-cells}
-use Rattle.microscope.proofs.AddressLaws.{cells-fit}
+use Rattle.sketch.proofs.JudgedLaws.{sound-cells}
+use Rattle.sketch.proofs.AddressLaws.{cells-fit}
 use Rattle.sketch_merging.proofs.MergePass.{merged-all}
 use borrow.Author.Needs.{needs}
 use Rattle.sketch_merging.proofs.pass.merge_each.Statement.{statement}

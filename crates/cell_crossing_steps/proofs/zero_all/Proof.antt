@@ -1,0 +1,51 @@
+-- `zero_all`: a fill with zeros, one more at each turn. Assumes nothing.
+use Rattle.laws.proofs.ZeroLaws.{zeros-on, zeros-end}
+use Prim.Native.Nat.{_-_, _≤_}
+use mathlib.Core.Path.{_≡_, refl}
+use mathlib.Core.List.{_++_}
+use lib.ListN.{length, drop, replicate, length-set}
+use borrow.Author.Needs.{needs}
+use native.Mathlib.Omega.{arith}
+use Rattle.cell_crossing_steps.proofs.zero_all.Statement.{statement}
+use Rattle.cell_crossing_steps.proofs.zero_all.Tie as tie
+
+abbrev Inv-loop : tie.InvT-loop
+Inv-loop pixels₀ i₀ pixels i = (pixels ≡ replicate i 0 ++ drop i pixels₀) × (length pixels ≡ length pixels₀) × (i ≤ length pixels)
+
+abbrev μ-loop : tie.MeasureT-loop
+μ-loop pixels₀ i₀ pixels i = length pixels - i
+
+loop-holds : tie.Need-loop-holds Inv-loop μ-loop
+loop-holds c = (refl, refl, search needs)
+
+slice-write-pixels : tie.Need-slice-write-pixels Inv-loop μ-loop
+slice-write-pixels c = search needs
+
+add-i : tie.Need-add-i Inv-loop μ-loop
+add-i c = search needs
+
+loop-less : tie.Need-loop-less Inv-loop μ-loop
+loop-less c = simp length-set (omega arith)
+
+loop-again : tie.Need-loop-again Inv-loop μ-loop
+loop-again c = (search (zeros-on, needs), simp length-set (search needs), simp length-set (omega arith))
+
+same-length : tie.Need-same-length Inv-loop μ-loop
+same-length c = search needs
+
+returns : tie.Need-returns Inv-loop μ-loop
+returns c = search (zeros-end, needs)
+
+pub zero-all-spec : {M : Type 1} → statement M
+zero-all-spec =
+    tie.close
+    (tie.spec
+    Inv-loop
+    μ-loop
+    loop-holds
+    slice-write-pixels
+    add-i
+    loop-less
+    loop-again
+    same-length
+    returns)

@@ -1,0 +1,2 @@
+// Document 01, "Settings and cell": where a cell's fields stand.
+pub mod fields;

@@ -1,0 +1,91 @@
+-- The stages of the sums in the form in which the code comes to them: the raises, the pixels, the carry. Assumes nothing.
+use Prim.Native.Nat.{ℕ, suc, _+_, _-_, _*_, _^_, _≤_, _<_}
+use mathlib.Core.Path.{_≡_, refl, sym, ap, _∙_}
+use mathlib.Core.Bool.{Bool, true, false, not}
+use mathlib.Core.List.{List}
+use lib.ListN.{length, take, getD}
+use native.Mathlib.Nat.{add-assoc, zero-add, add-zero}
+use native.Mathlib.Omega.{arith}
+use borrow.Author.Tests.{not-true, not-false}
+use Rattle.laws.specs.Steps.{Step}
+use Rattle.cell.specs.declared.Drawn.{Drawn}
+use Rattle.cell_merging_sums.specs.declared.Summed.{Summed}
+use Rattle.cell.specs.Cell.{pixelsOf, pixelsIn, zoomOf, maxZoom}
+use Rattle.cell.specs.Insertion.{divideEach}
+use Rattle.cell.specs.Crossing.{allAtMost}
+use Rattle.cell.specs.Merge.{addEach, cutEach, Settled, settledLater, settleFrom, settleOf, withCarry}
+use Rattle.cell.specs.Workers.{stepOf}
+use Rattle.cell_merging_sums.specs.Workers.{flatSums, settledOf, sumsOf}
+use Rattle.cell.proofs.DivideLaws.{divide-draws}
+use Rattle.cell.proofs.PowerLaws.{max-zoom-limit}
+use Rattle.cell.proofs.SumsLaws.{most-at, cut-low, settle-fit, settle-raise, settle-few}
+use Rattle.cell_merging_sums.proofs.SumLoops.{flat-is}
+
+-- SETTLE: the zoom is z by now, and the sums are l
+pub record Settling (c z₀ : ℕ) (l₀ : List ℕ) (σ : ℕ) (l : List ℕ) (s n z : ℕ) : Type 0 where
+  pub done : settleOf c z₀ l₀ σ ≡ settledLater n (settleFrom c (maxZoom c - z) z l s)
+  pub same : length l ≡ length l₀
+  pub most : z ≤ maxZoom c
+
+module _ (c z₀ : ℕ) (l₀ : List ℕ) (σ : ℕ) where
+  pub settling-begin : z₀ ≤ maxZoom c → Settling c z₀ l₀ σ l₀ σ 0 z₀
+  settling-begin h = record { done = simp zero-add; same = refl; most = h }
+
+  pub settling-few : (l : List ℕ) (s n z : ℕ) → Settling c z₀ l₀ σ l s n z → length l₀ ≤ 4098 → n ≤ 31 * 4098
+  settling-few l s n z w few =
+      omega (arith, ap (λ (r : Settled). r .sums .draws) (w .done), settle-few c (maxZoom c - z₀) z₀ l₀ σ (omega (arith, max-zoom-limit c)) few)
+
+  pub settling-fits : (l : List ℕ) (s n z : ℕ) → Settling c z₀ l₀ σ l s n z → length l₀ ≤ 4098 → (τ : ℕ) (l' : List ℕ) (d : Drawn) → stepOf l' d ≡ divideEach c l τ → n + d .draws < 2 ^ 32
+  settling-fits l s n z w few τ l' d e =
+      omega (arith, settling-few l s n z w few, ap (λ (r : Step). r .draws) e, divide-draws c l τ, w .same)
+
+  module _ (l : List ℕ) (s n z : ℕ) (w : Settling c z₀ l₀ σ l s n z) (fit : Bool) (ef : fit ≡ allAtMost 255 l) where
+    pub settling-fit : not fit ≡ false → record { zoom = z; sums = record { bytes = l; state = s; draws = n } } ≡ settleOf c z₀ l₀ σ
+    settling-fit g = sym (w .done ∙ rw (settle-fit c (maxZoom c - z) z l s (sym ef ∙ not-false fit g)) (simp add-zero))
+
+    module _ (top : ℕ) (et : top ≡ maxZoom c) where
+      pub settling-cut : top ≤ z → (l' : List ℕ) → l' ≡ cutEach l → record { zoom = z; sums = record { bytes = l'; state = s; draws = n } } ≡ settleOf c z₀ l₀ σ
+      unfolding settleFrom
+      settling-cut h l' e =
+          let q : maxZoom c - z ≡ 0 = omega arith in
+          sym (w .done ∙ rw (q, ← e) (simp add-zero))
+
+      module _ (low : z < top) where
+        pub settling-raise : z + 1 < 2 ^ 8
+        settling-raise = omega (arith, max-zoom-limit c)
+
+        pub settling-less : maxZoom c - (z + 1) < maxZoom c - z
+        settling-less = omega arith
+
+        module _ (g : not fit ≡ true) (l' : List ℕ) (d : Drawn) (e : stepOf l' d ≡ divideEach c l s) where
+          settling-turn : settleOf c z₀ l₀ σ ≡ settledLater n (settledLater (d .draws) (settleFrom c (maxZoom c - (z + 1)) (z + 1) l' (d .state)))
+          settling-turn =
+              let q : maxZoom c - z ≡ suc (maxZoom c - (z + 1)) = omega arith in
+              (rw q at (w .done)) ∙ rw (settle-raise c (maxZoom c - (z + 1)) z l s (sym ef ∙ not-true fit g), ← e) refl
+
+          pub settling-on : length l' ≡ length l → Settling c z₀ l₀ σ l' (d .state) (n + d .draws) (z + 1)
+          settling-on same = record { done = settling-turn ∙ simp add-assoc; same = same ∙ w .same; most = omega arith }
+
+pub cut-known : (l l' : List ℕ) → l' ≡ cutEach l → allAtMost 255 l' ≡ true
+cut-known l l' e = rw e (cut-low l)
+
+-- ADD THE PIXELS
+module _ (t c target p z z' : ℕ) (b src : List ℕ) (σ : ℕ) (ez : z ≡ zoomOf t b) (ez' : z' ≡ zoomOf t src) (ep : p ≡ pixelsOf t) where
+  pub added-is : (l : List ℕ) (r : Drawn) → stepOf l r ≡ addEach c (target - z) (target - z') (take p b) (take p src) σ
+      → stepOf l r ≡ addEach c (target - zoomOf t b) (target - zoomOf t src) (pixelsIn t b) (pixelsIn t src) σ
+  added-is l r e = rw (ez, ez', ep) at e
+
+  pub added-flat : target - z ≡ 0 → target - z' ≡ 0 → (l : List ℕ) → l ≡ flatSums (take p b) (take p src)
+      → record { bytes = l; state = σ; draws = 0 } ≡ addEach c (target - zoomOf t b) (target - zoomOf t src) (pixelsIn t b) (pixelsIn t src) σ
+  added-flat d d' l e = rw (← ez, ← ez', ← ep, d, d', e) (sym (flat-is c (take p b) (take p src) σ))
+
+-- THE SUMS: what the pixels gave, the carry, and what settled
+pub carry-fits : (l : List ℕ) (slot carry : ℕ) → allAtMost 510 l ≡ true → carry ≤ 1 → getD l slot 0 + carry < 2 ^ 32
+carry-fits l slot carry low h = omega (arith, most-at 510 l slot low)
+
+module _ (t c target slot carry : ℕ) (b src : List ℕ) (σ : ℕ) (l l' l'' : List ℕ) (r : Drawn) (r' : Summed)
+    (ea : stepOf l r ≡ addEach c (target - zoomOf t b) (target - zoomOf t src) (pixelsIn t b) (pixelsIn t src) σ)
+    (ec : l' ≡ withCarry slot carry l) (es : settledOf l'' r' ≡ settleOf c target l' (r .state)) where
+  pub sums-are : record { zoom = r' .zoom; sums = record { bytes = l''; state = r' .state; draws = r .draws + r' .draws } } ≡ sumsOf t c target slot carry b src σ
+  unfolding sumsOf
+  sums-are = rw (← ea, ← ec) (ap (settledLater (r .draws)) es)

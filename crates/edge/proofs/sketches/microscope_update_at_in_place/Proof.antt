@@ -1,0 +1,24 @@
+-- `microscope_update_at_in_place`: the core's update_at on the sketch that the numbers stand for. Assumes nothing.
+use Rattle.edge.proofs.EdgeLaws.{update-at-put}
+use borrow.Author.Needs.{needs}
+use Rattle.edge.proofs.sketches.microscope_update_at_in_place.Statement.{statement}
+use Rattle.edge.proofs.sketches.microscope_update_at_in_place.Tie as tie
+
+core-with-requires : tie.Need-core-with-requires
+core-with-requires c κs = search needs
+
+update-at-requires : tie.Need-update-at-requires
+update-at-requires c κs = search needs
+
+put-requires : tie.Need-put-requires
+put-requires c κs = search needs
+
+same-length : tie.Need-same-length
+same-length c = search needs
+
+returns : tie.Need-returns
+returns c = search (update-at-put, needs)
+
+pub microscope-update-at-in-place-spec : {M : Type 1} → statement M
+microscope-update-at-in-place-spec =
+    tie.close (tie.spec core-with-requires update-at-requires put-requires same-length returns)

@@ -1,0 +1,24 @@
+-- `moved`: the cells cross where they are to, and were judged there. Assumes nothing.
+use Rattle.sketch_counting.proofs.MoveLaws.{moves-sound, moves-crossed, moves-none}
+use borrow.Author.Needs.{needs}
+use Rattle.sketch_counting.proofs.worker.moved.Statement.{statement}
+use Rattle.sketch_counting.proofs.worker.moved.Tie as tie
+
+sub-begun : tie.Need-sub-begun
+sub-begun c = search needs
+
+cross-cells-requires : tie.Need-cross-cells-requires
+cross-cells-requires c κs = (search (moves-sound, needs), search needs)
+
+same-length : tie.Need-same-length
+same-length c = search needs
+
+returns : tie.Need-returns
+returns c = (search (moves-crossed, needs), search needs)
+
+returns-2 : tie.Need-returns-2
+returns-2 c = (search (moves-none, needs), search needs)
+
+pub moved-spec : {M : Type 1} → statement M
+moved-spec =
+    tie.close (tie.spec sub-begun cross-cells-requires same-length returns returns-2)

@@ -1,0 +1,107 @@
+// Document 01, "Sketch and grid": the calls that count.
+//
+// A call judges first and writes after: a refused one leaves the sketch and every byte of the grid as they came. A slice is
+// handed on as a part, `&key[..]`: whole, it would be copied through memory at each call.
+mod judge;
+mod worker;
+
+use sketch::MicroCm;
+use sketch::SketchAnswer;
+ghost use mathlib.Core.Path.{_≡_};
+ghost use Rattle.sketch.specs.Refusals.{sketchOutcome, updateCall, updateAtCall, advanceCall};
+
+// One item on a clock of items. It is counted in the sub-window that it finds: the tick comes after it.
+pub fn update(sketch: MicroCm, key: &[u32], grid: &mut [u8]) -> SketchAnswer
+    ensures { λ r. ⌜ sketchOutcome r (now (grid .exit)) ≡ updateCall sketch (now (key .entry)) (now (grid .entry)) ⌝ }
+{
+    let clock = sketch.clock;
+    let after = clock::worker::ticked(clock);
+    let old = clock::worker::sub_window(clock);
+    let new = clock::worker::next_sub_window(clock, old);
+    let wrong = !clock::worker::is_count(clock);
+    let counted = worker::count(sketch, &key[..], grid, after, old, new, old, wrong);
+    let verdict = counted.verdict;
+    if !verdict.accepted() {
+        return SketchAnswer {
+            verdict,
+            sketch,
+            draws: 0,
+        };
+    }
+    SketchAnswer {
+        verdict,
+        sketch: worker::went_on(sketch, after, counted.state),
+        draws: counted.draws,
+    }
+}
+
+// One item on a clock of time. It is counted in the sub-window of its own time: the clock is moved before it.
+pub fn update_at(sketch: MicroCm, key: &[u32], timestamp: u64, grid: &mut [u8]) -> SketchAnswer
+    ensures { λ r. ⌜ sketchOutcome r (now (grid .exit)) ≡ updateAtCall sketch (now (key .entry)) timestamp (now (grid .entry)) ⌝ }
+{
+    let clock = sketch.clock;
+    let after = clock::worker::advanced(clock, timestamp);
+    let old = clock::worker::sub_window(clock);
+    let new = clock::worker::sub_window(after);
+    let wrong = clock::worker::is_count(clock);
+    let counted = worker::count(sketch, &key[..], grid, after, old, new, new, wrong);
+    let verdict = counted.verdict;
+    if !verdict.accepted() {
+        return SketchAnswer {
+            verdict,
+            sketch,
+            draws: 0,
+        };
+    }
+    SketchAnswer {
+        verdict,
+        sketch: worker::went_on(sketch, after, counted.state),
+        draws: counted.draws,
+    }
+}
+
+// Time passes without an item.
+pub fn advance_to(sketch: MicroCm, timestamp: u64, grid: &mut [u8]) -> SketchAnswer
+    ensures { λ r. ⌜ sketchOutcome r (now (grid .exit)) ≡ advanceCall sketch timestamp (now (grid .entry)) ⌝ }
+{
+    let clock = sketch.clock;
+    let rounding = sketch.rounding;
+    let params = sketch.params;
+    let after = clock::worker::advanced(clock, timestamp);
+    let old = clock::worker::sub_window(clock);
+    let new = clock::worker::sub_window(after);
+    let wrong = clock::worker::is_count(clock);
+    let verdict = judge::movement(sketch, &grid[..], after, new != old, wrong);
+    if !verdict.accepted() {
+        return SketchAnswer {
+            verdict,
+            sketch,
+            draws: 0,
+        };
+    }
+    // Within its sub-window no cell is looked at. The crossing is called here and not by `worker::moved`: with one caller it
+    // would be compiled into that, which every update runs through twice.
+    if new == old {
+        return SketchAnswer {
+            verdict,
+            sketch: worker::went_on(sketch, after, rounding.state),
+            draws: 0,
+        };
+    }
+    let begun = new - old;
+    let cells = sketch.rows * sketch.cols;
+    let crossed = sketch_counting_passes::cross_cells(
+        grid,
+        params.t,
+        params.c,
+        cells,
+        new,
+        begun,
+        rounding.state,
+    );
+    SketchAnswer {
+        verdict,
+        sketch: worker::went_on(sketch, after, crossed.state),
+        draws: crossed.draws,
+    }
+}

@@ -1,0 +1,51 @@
+-- `list` shows each column once: what is left of the key gets shorter. Assumes nothing.
+use borrow.Author.Needs.{needs}
+use Prim.Native.Nat.{_-_, _≤_}
+use lib.ListN.{length}
+use Rattle.try_replay.proofs.sketches.show.list.Statement.{statement}
+use Rattle.try_replay.proofs.sketches.show.list.Tie as tie
+
+abbrev Inv-loop : tie.InvT-loop
+Inv-loop columns row₀ row = row ≤ length columns
+
+abbrev μ-loop : tie.MeasureT-loop
+μ-loop columns row₀ row = length columns - row
+
+loop-holds : tie.Need-loop-holds Inv-loop μ-loop
+loop-holds c = search needs
+
+mul-column : tie.Need-mul-column Inv-loop μ-loop
+mul-column c = search needs
+
+shared-slice-read-column : tie.Need-shared-slice-read-column Inv-loop μ-loop
+shared-slice-read-column c = search needs
+
+column-requires : tie.Need-column-requires Inv-loop μ-loop
+column-requires c κs = search needs
+
+add-row : tie.Need-add-row Inv-loop μ-loop
+add-row c = search needs
+
+loop-less : tie.Need-loop-less Inv-loop μ-loop
+loop-less c = search needs
+
+loop-again : tie.Need-loop-again Inv-loop μ-loop
+loop-again c = search needs
+
+returns : tie.Need-returns Inv-loop μ-loop
+returns c = search needs
+
+pub list-spec : {M : Type 1} → statement M
+list-spec =
+    tie.close
+    (tie.spec
+    Inv-loop
+    μ-loop
+    loop-holds
+    mul-column
+    shared-slice-read-column
+    column-requires
+    add-row
+    loop-less
+    loop-again
+    returns)

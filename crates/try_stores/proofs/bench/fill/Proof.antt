@@ -1,0 +1,56 @@
+-- `fill` ends at the last byte, and keeps the length.
+use borrow.Author.Needs.{needs}
+use mathlib.Core.Path.{_≡_}
+use Prim.Native.Nat.{_-_}
+use lib.ListN.{length}
+use Rattle.try_stores.proofs.bench.fill.Statement.{statement}
+use Rattle.try_stores.proofs.bench.fill.Tie as tie
+
+abbrev Inv-loop : tie.InvT-loop
+Inv-loop grid₀ t run count i₀ grid i = length grid ≡ length grid₀
+
+abbrev μ-loop : tie.MeasureT-loop
+μ-loop grid₀ t run count i₀ grid i = count - i
+
+loop-holds : tie.Need-loop-holds Inv-loop μ-loop
+loop-holds c = search needs
+
+random-requires : tie.Need-random-requires Inv-loop μ-loop
+random-requires c κs = search needs
+
+grid-byte-requires : tie.Need-grid-byte-requires Inv-loop μ-loop
+grid-byte-requires c κs = search needs
+
+set-requires : tie.Need-set-requires Inv-loop μ-loop
+set-requires c κs = search needs
+
+add-i : tie.Need-add-i Inv-loop μ-loop
+add-i c = search needs
+
+loop-less : tie.Need-loop-less Inv-loop μ-loop
+loop-less c = search needs
+
+loop-again : tie.Need-loop-again Inv-loop μ-loop
+loop-again c = search needs
+
+same-length : tie.Need-same-length Inv-loop μ-loop
+same-length c = search needs
+
+returns : tie.Need-returns Inv-loop μ-loop
+returns c = search needs
+
+pub fill-spec : {M : Type 1} → statement M
+fill-spec =
+    tie.close
+    (tie.spec
+    Inv-loop
+    μ-loop
+    loop-holds
+    random-requires
+    grid-byte-requires
+    set-requires
+    add-i
+    loop-less
+    loop-again
+    same-length
+    returns)
