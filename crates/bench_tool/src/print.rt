@@ -12,7 +12,7 @@ fn sent(written: bool) {
         return;
     }
     if libc::close(STDIN_FILENO) == 0 {
-        os::fail(b"workshop: standard output cannot be written");
+        os::fail(b"bench_tool: standard output cannot be written");
     }
     libc::close(STDOUT_FILENO);
 }
