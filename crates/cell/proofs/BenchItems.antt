@@ -12,11 +12,11 @@ use Rattle.rounding.proofs.DivisionLaws.{up-case}
 use Rattle.cell.specs.Cell.{shutterOf, withShutter, maxZoom}
 use Rattle.cell.specs.Insertion.{divideEach, zoomOutOf, creditOf, insertOf}
 use Rattle.cell.specs.Crossing.{closeOf, clearOf, emptied, insideOf, ceilingOf, allAtMost, timesEach, zoomedIn, zoomInFrom, crossOf}
-use Rattle.cell.specs.Merge.{scaleDown, addPair, addEach, cutEach, settleFrom, mergedWith, mergeOf}
+use Rattle.cell.specs.Merge.{scaleDown, addPair, addEach, cutEach, settleFrom, mergedWith, mergeOf, sumsOf}
 use Rattle.cell.specs.BenchSheet.{CellItems, cellWith, oneDraw, doubled}
 
 item-9-odd : doubled 0 (cellWith 255 0 0 1 1) 1 ≡ oneDraw (cellWith 255 0 0 2 0) 1
-unfolding mergeOf addEach addPair scaleDown settleFrom cutEach divideEach allAtMost roundedDiv nextState yielded xorUp xorDown shutterOf withShutter numberOf bytesOf maxZoom highest
+unfolding mergeOf sumsOf addEach addPair scaleDown settleFrom cutEach divideEach allAtMost roundedDiv nextState yielded xorUp xorDown shutterOf withShutter numberOf bytesOf maxZoom highest
 item-9-odd = refl
 
 none : (τ : ℕ) → roundedDiv 0 2 τ ≡ record { value = 0; state = τ; draws = 0 }
@@ -39,7 +39,7 @@ unfolding settleFrom allAtMost
 two-raises left σ e = rw (half-up σ e, half-again (nextState σ)) refl
 
 before-settling : (σ : ℕ) → doubled 0 (cellWith 255 0 0 1 1) σ ≡ mergedWith 1 0 (cellWith 255 0 0 1 1) (settleFrom 2 30 1 (511 ∷ 0 ∷ 0 ∷ []) σ)
-unfolding mergeOf addEach addPair scaleDown shutterOf numberOf bytesOf maxZoom highest
+unfolding mergeOf sumsOf addEach addPair scaleDown shutterOf numberOf bytesOf maxZoom highest
 before-settling σ = simp zero-add
 
 after-settling : (σ : ℕ) → mergedWith 1 0 (cellWith 255 0 0 1 1) (record { zoom = 3; sums = oneDraw (128 ∷ 0 ∷ 0 ∷ []) σ }) ≡ oneDraw (cellWith 128 0 0 3 0) σ
@@ -50,7 +50,7 @@ item-9-even : (σ : ℕ) → yielded (nextState σ) % 2 ≡ 0 → doubled 0 (cel
 item-9-even σ e = before-settling σ ∙ rw (two-raises 27 σ e) (after-settling σ)
 
 pub cell-items : CellItems
-unfolding insertOf creditOf zoomOutOf divideEach roundedDiv nextState yielded xorUp xorDown shutterOf withShutter numberOf bytesOf maxZoom highest crossOf insideOf closeOf clearOf emptied zoomInFrom zoomedIn timesEach allAtMost ceilingOf mergeOf addEach addPair scaleDown settleFrom cutEach
+unfolding insertOf creditOf zoomOutOf divideEach roundedDiv nextState yielded xorUp xorDown shutterOf withShutter numberOf bytesOf maxZoom highest crossOf insideOf closeOf clearOf emptied zoomInFrom zoomedIn timesEach allAtMost ceilingOf mergeOf sumsOf addEach addPair scaleDown settleFrom cutEach
 cell-items = record {
   item-1 = λ σ. refl;
   item-2 = λ σ. refl;

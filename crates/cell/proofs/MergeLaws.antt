@@ -11,7 +11,7 @@ use native.Mathlib.Nat.{mod-lt, mul-comm, mul-add, mul-le-mul-left, pow-le-pow-r
 use Rattle.laws.specs.Steps.{Step}
 use Rattle.rounding.specs.Draws.{stateAfter}
 use Rattle.cell.specs.Cell.{pixelsOf, depthOf, slotOf, pixelsIn, zoomOf, shutterOf, withPixels, withZoom, withShutter, maxZoom, soundOf}
-use Rattle.cell.specs.Merge.{addEach, Settled, settleOf, withCarry, mergeOf}
+use Rattle.cell.specs.Merge.{addEach, Settled, settleOf, withCarry, mergeOf, sumsOf}
 use Rattle.cell.specs.Workers.{Fit}
 use Rattle.cell.proofs.SmallLaws.{Small, small-take, bounded-set}
 use Rattle.cell.proofs.CellLaws.{Kept, kept-same, kept-then, with-zoom-zoom, with-zoom-kept, with-pixels-kept, with-shutter-shutter, with-shutter-zoom, with-shutter-kept}
@@ -140,7 +140,7 @@ module _ (t c n : ℕ) (b src : List ℕ) (σ : ℕ) (fit : Fit t c (length b)) 
       omega (arith, mul-add (pixelsOf t) levels (maxZoom c - target))
 
   pub merged-leaves : Merged t c b σ (mergeOf t c n b src σ)
-  unfolding mergeOf
+  unfolding mergeOf sumsOf
   merged-leaves = record {
     kept = kept-then t b raised _ raised-kept (with-shutter-kept t rest raised raised-size);
     sound = merged-sound;

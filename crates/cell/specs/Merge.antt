@@ -61,6 +61,12 @@ settleOf c z sums σ = settleFrom c (maxZoom c - z) z sums σ
 abbrev pub withCarry : ℕ → ℕ → List ℕ → List ℕ
 withCarry slot carry sums = set sums slot (getD sums slot 0 + carry)
 
+-- the sums that become dst's pixels: pixel by pixel, with the carry, settled
+unfoldable pub sumsOf : ℕ → ℕ → ℕ → ℕ → ℕ → List ℕ → List ℕ → ℕ → Settled
+sumsOf t c target slot carry b src σ =
+    let s = addEach c (target - zoomOf t b) (target - zoomOf t src) (pixelsIn t b) (pixelsIn t src) σ in
+    settledLater (s .draws) (settleOf c target (withCarry slot carry (s .bytes)) (s .state))
+
 -- dst with the sums as its pixels, their zoom, and the shutters' remainder
 abbrev pub mergedWith : ℕ → ℕ → List ℕ → Settled → Step
 mergedWith t shutter b r = leaving (r .sums) (withShutter t shutter (withZoom t (r .zoom) (withPixels t (r .sums .bytes) b)))
@@ -70,7 +76,4 @@ unfoldable pub mergeOf : ℕ → ℕ → ℕ → List ℕ → List ℕ → ℕ �
 mergeOf t c n b src σ =
     let target = max (zoomOf t b) (zoomOf t src) in
     let shutters = shutterOf t b + shutterOf t src in
-    let s = addEach c (target - zoomOf t b) (target - zoomOf t src) (pixelsIn t b) (pixelsIn t src) σ in
-    later (s .draws)
-    (mergedWith t (shutters % c ^ target) b
-    (settleOf c target (withCarry (slotOf t n) (shutters / c ^ target) (s .bytes)) (s .state)))
+    mergedWith t (shutters % c ^ target) b (sumsOf t c target (slotOf t n) (shutters / c ^ target) b src σ)

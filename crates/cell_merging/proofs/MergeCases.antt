@@ -8,8 +8,8 @@ use native.Mathlib.Omega.{arith}
 use Rattle.cell_merging.specs.declared.merge.Carry.{Carry}
 use Rattle.cell_merging_sums.specs.declared.Summed.{Summed}
 use Rattle.cell.specs.Cell.{pixelsOf, depthOf, slotOf, zoomOf, shutterOf, withPixels, withZoom, withShutter}
-use Rattle.cell.specs.Merge.{mergedWith, mergeOf}
-use Rattle.cell_merging_sums.specs.Workers.{settledOf, sumsOf}
+use Rattle.cell.specs.Merge.{mergedWith, mergeOf, sumsOf}
+use Rattle.cell_merging_sums.specs.Workers.{settledOf}
 use Rattle.cell_merging.specs.Workers.{Pair, Carried}
 use Rattle.cell.proofs.MergeLaws.{target-fits, target-positive, carry-le}
 

@@ -13,9 +13,9 @@ use Rattle.cell_merging_sums.specs.declared.Summed.{Summed}
 use Rattle.cell.specs.Cell.{pixelsOf, pixelsIn, zoomOf, maxZoom}
 use Rattle.cell.specs.Insertion.{divideEach}
 use Rattle.cell.specs.Crossing.{allAtMost}
-use Rattle.cell.specs.Merge.{addEach, cutEach, Settled, settledLater, settleFrom, settleOf, withCarry}
+use Rattle.cell.specs.Merge.{addEach, cutEach, Settled, settledLater, settleFrom, settleOf, withCarry, sumsOf}
 use Rattle.cell.specs.Workers.{stepOf}
-use Rattle.cell_merging_sums.specs.Workers.{flatSums, settledOf, sumsOf}
+use Rattle.cell_merging_sums.specs.Workers.{flatSums, settledOf}
 use Rattle.cell.proofs.DivideLaws.{divide-draws}
 use Rattle.cell.proofs.PowerLaws.{max-zoom-limit}
 use Rattle.cell.proofs.SumsLaws.{most-at, cut-low, settle-fit, settle-raise, settle-few}

@@ -12,9 +12,9 @@ ghost use Rattle.rounding.specs.Draws.{roundedDiv};
 ghost use Rattle.cell.specs.Cell.{pixelsOf, pixelsIn, zoomOf, maxZoom};
 ghost use Rattle.cell.specs.Insertion.{divideEach};
 ghost use Rattle.cell.specs.Crossing.{allAtMost};
-ghost use Rattle.cell.specs.Merge.{scaleDown, addPair, addEach, cutEach, settleOf, withCarry};
+ghost use Rattle.cell.specs.Merge.{scaleDown, addPair, addEach, cutEach, settleOf, withCarry, sumsOf};
 ghost use Rattle.cell.specs.Workers.{Fit, stepOf};
-ghost use Rattle.cell_merging_sums.specs.Workers.{flatSums, settledOf, sumsOf};
+ghost use Rattle.cell_merging_sums.specs.Workers.{flatSums, settledOf};
 
 // Sums that fit a byte each: the zoom at which they do, and what drawing for them left.
 pub struct Summed {

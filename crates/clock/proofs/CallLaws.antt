@@ -20,7 +20,8 @@ use Rattle.clock.specs.declared.SubWindowClock.{SubWindowClock}
 use Rattle.clock.specs.declared.SubWindowClock.the-variants.{CountBased, TimeBased}
 use Rattle.clock.specs.declared.FractionAnswer.{FractionAnswer}
 use Rattle.clock.specs.declared.MovedAnswer.{MovedAnswer}
-use Rattle.clock.specs.Clock.{GoodLength, Onward, lengthOf, passedOf, nOf, fractionOf, tickOf, advanceOf, crossedOf, startOf, sameFrame}
+use Rattle.clock.specs.Clock.{lengthOf, passedOf, nOf, fractionOf, tickOf, advanceOf, crossedOf, startOf, sameFrame}
+use Rattle.clock.specs.Workers.{GoodLength, Onward}
 use Rattle.clock.proofs.ClockLaws.{fraction-in-unit, quotient-next, quotient-stays, tick-grows, advance-grows}
 use Rattle.clock.specs.Refusals.{refuseLength, lengthVerdict, movedCall, nCall, fractionCall}
 

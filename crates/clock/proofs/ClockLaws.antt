@@ -14,7 +14,8 @@ use Rattle.laws.specs.Unit.{inUnit}
 use Rattle.laws.proofs.UnitLaws.{fraction-unit}
 use Rattle.clock.specs.declared.SubWindowClock.{SubWindowClock}
 use Rattle.clock.specs.declared.SubWindowClock.the-variants.{CountBased, TimeBased}
-use Rattle.clock.specs.Clock.{GoodLength, readingOf, lengthOf, passedOf, nOf, fractionOf, isCount, tickOf, advanceOf, startOf, sameFrame}
+use Rattle.clock.specs.Clock.{readingOf, lengthOf, passedOf, nOf, fractionOf, isCount, tickOf, advanceOf, startOf, sameFrame}
+use Rattle.clock.specs.Workers.{GoodLength}
 
 -- ---- kind, length and epoch stay
 pub record Keeps (k k' : SubWindowClock) : Type 0 where

@@ -1,6 +1,5 @@
 -- Document 01, "Clock".
-use Prim.Native.Nat.{ℕ, _+_, _-_, _/_, _%_, _^_, _≤_, min, max}
-use mathlib.Core.Path.{_≡_}
+use Prim.Native.Nat.{ℕ, _+_, _-_, _/_, _%_, _^_, min, max}
 use mathlib.Core.Bool.{Bool, true, false, _&&_}
 use lib.Dec.{eqb}
 use lib.Ieee.{Float, binary64, sub, div}
@@ -12,11 +11,6 @@ use Rattle.clock.specs.declared.SubWindowClock.the-variants.{CountBased,
 abbrev pub lengthOf : SubWindowClock → ℕ
 lengthOf (CountBased length seen) = length
 lengthOf (TimeBased length epoch now) = length
-
--- a length of 1 to 2 ^ 53
-pub record GoodLength (k : SubWindowClock) : Type 0 where
-  pub some : 1 ≤ lengthOf k
-  pub short : lengthOf k ≤ 2 ^ 53
 
 -- what it has read: the items seen, or the time now
 abbrev pub readingOf : SubWindowClock → ℕ
@@ -49,12 +43,6 @@ tickOf (TimeBased length epoch now) = TimeBased length epoch now
 abbrev pub advanceOf : SubWindowClock → ℕ → SubWindowClock
 advanceOf (CountBased length seen) reading = CountBased length seen
 advanceOf (TimeBased length epoch now) reading = TimeBased length epoch (max now reading)
-
--- a clock moved on by a step: it is what the step makes of it, its sub-windows are as long, and n has not fallen
-pub record Onward (before step after : SubWindowClock) : Type 0 where
-  pub is : after ≡ step
-  pub length : lengthOf after ≡ lengthOf before
-  pub grows : nOf before ≤ nOf after
 
 -- how many sub-windows begin as one clock becomes the other
 abbrev pub crossedOf : SubWindowClock → SubWindowClock → ℕ

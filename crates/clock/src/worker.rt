@@ -6,7 +6,8 @@ ghost use mathlib.Core.Path.{_≡_};
 ghost use Prim.Native.Nat.{_≤_};
 ghost use Rattle.refusal.specs.declared.Verdict.the-variants.{Accepted};
 ghost use Rattle.refusal.specs.Refusals.{refuse};
-ghost use Rattle.clock.specs.Clock.{GoodLength, Onward, lengthOf, passedOf, nOf, fractionOf, isCount, tickOf, advanceOf, startOf};
+ghost use Rattle.clock.specs.Clock.{lengthOf, passedOf, nOf, fractionOf, isCount, tickOf, advanceOf, startOf};
+ghost use Rattle.clock.specs.Workers.{GoodLength, Onward};
 ghost use Rattle.clock.specs.Refusals.{refuseLength, lengthVerdict, movedCall};
 
 // The longest sub-window: up to here every remainder and length is an f64 exactly.

@@ -41,7 +41,7 @@ use Rattle.edge_values.specs.declared.PlainFigure.{PlainFigure}
 use Rattle.edge_values.specs.declared.PlainVerdict.{PlainVerdict}
 use Rattle.edge_values.specs.declared.PlainAudit.{PlainAudit}
 use Rattle.edge_values.specs.declared.PlainDrawn.{PlainDrawn}
-use Rattle.edge_values.specs.Edge.{clockOf, sketchOf, paramsOf, watchOf, startOf, startOutcome, startedOf, watchedOf, plainSet, setOf, askedOf, plainAsk, askOf, settingsOf, sketchWith, readingAfter, stateAfter, toldOf, changedOf, changeOf, inPlace, plainOutcome, readingOf, valueOf, figureOf, meanOf, highestOf, verdictOf, auditOf, storeLengthOf, plainSave, saveOf, depthOf, zoomOf, shutterOf, pixelOf, plainCell, cellOf, drawnOf}
+use Rattle.edge_values.specs.Edge.{clockOf, sketchOf, paramsOf, watchOf, startOf, startOutcome, startedOf, watchedOf, plainSet, setOf, askedOf, plainAsk, askOf, settingsOf, sketchWith, readingAfter, stateAfter, toldOf, changedOf, changeOf, inPlace, plainOutcome, valueOf, figureOf, meanOf, highestOf, verdictOf, auditOf, storeLengthOf, plainSave, saveOf, depthOf, zoomOf, shutterOf, pixelOf, plainCell, cellOf, drawnOf, plainReading}
 
 -- A FRESH START
 pub fresh-told : (clock : SubWindowClock) (rows cols t c kind length epoch seed : ℕ) (a : ServiceAnswer) (l g : List ℕ) (r : PlainStart) → clock ≡ clockOf kind length epoch epoch
@@ -94,11 +94,11 @@ module _ (s : PlainSketch) (m : PlainSettings) (em : m ≡ settingsOf s) (change
 
 -- CALLS THAT READ A SKETCH
 module _ (s : PlainSketch) (k : MicroCm) (ek : k ≡ sketchOf s) where
-  pub read-told : (key g : List ℕ) (a : ReadingAnswer) (r : PlainReading) → a ≡ readCall k key g → r ≡ readingOf a → r ≡ readingOf (readCall (sketchOf s) key g)
+  pub read-told : (key g : List ℕ) (a : ReadingAnswer) (r : PlainReading) → a ≡ readCall k key g → r ≡ plainReading a → r ≡ plainReading (readCall (sketchOf s) key g)
   read-told key g a r e er = er ∙ rw (e, ek)
 
-  pub read-with-told : (key : List ℕ) (fraction : Float) (g : List ℕ) (a : ReadingAnswer) (r : PlainReading) → a ≡ readWithCall k key fraction g → r ≡ readingOf a
-      → r ≡ readingOf (readWithCall (sketchOf s) key fraction g)
+  pub read-with-told : (key : List ℕ) (fraction : Float) (g : List ℕ) (a : ReadingAnswer) (r : PlainReading) → a ≡ readWithCall k key fraction g → r ≡ plainReading a
+      → r ≡ plainReading (readWithCall (sketchOf s) key fraction g)
   read-with-told key fraction g a r e er = er ∙ rw (e, ek)
 
   pub mean-told : (key g : List ℕ) (a : MeanAnswer) (r : PlainNumber) → a ≡ meanCall k key g → r ≡ valueOf (a .verdict) (a .mean) → r ≡ meanOf (meanCall (sketchOf s) key g)

@@ -13,7 +13,7 @@ use service::Service;
 ghost use mathlib.Core.Path.{_≡_};
 ghost use Rattle.sketch.specs.Refusals.{updateCall, updateAtCall, advanceCall, readCall, readWithCall, meanCall, bucketVerdict, highestCall, auditCall, mergeCall};
 ghost use Rattle.service.specs.Service.{startCall};
-ghost use Rattle.edge_values.specs.Edge.{clockOf, sketchOf, paramsOf, startOutcome, startedOf, plainOutcome, changeOf, sketchWith, inPlace, readingOf, meanOf, highestOf, verdictOf, auditOf};
+ghost use Rattle.edge_values.specs.Edge.{clockOf, sketchOf, paramsOf, startOutcome, startedOf, plainOutcome, changeOf, sketchWith, inPlace, meanOf, highestOf, verdictOf, auditOf, plainReading};
 
 // A fresh sketch, and no codes: every byte of the grid is written 0. Any seed will do.
 #[no_mangle]
@@ -153,7 +153,7 @@ pub extern "C" fn microscope_advance_to_in_place(
 // The figures of a key, with the clock's fraction.
 #[no_mangle]
 pub extern "C" fn microscope_estimate(sketch: PlainSketch, key: &[u32], grid: &[u8]) -> PlainReading
-    ensures { λ r. ⌜ r ≡ readingOf (readCall (sketchOf sketch) (now (key .entry)) (now (grid .entry))) ⌝ }
+    ensures { λ r. ⌜ r ≡ plainReading (readCall (sketchOf sketch) (now (key .entry)) (now (grid .entry))) ⌝ }
 {
     let core = edge_values::core(sketch);
     let answer = sketch_reading::estimate(core, key, grid);
@@ -168,7 +168,7 @@ pub extern "C" fn microscope_estimate_with(
     fraction: f64,
     grid: &[u8],
 ) -> PlainReading
-    ensures { λ r. ⌜ r ≡ readingOf (readWithCall (sketchOf sketch) (now (key .entry)) fraction (now (grid .entry))) ⌝ }
+    ensures { λ r. ⌜ r ≡ plainReading (readWithCall (sketchOf sketch) (now (key .entry)) fraction (now (grid .entry))) ⌝ }
 {
     let core = edge_values::core(sketch);
     let answer = sketch_reading::estimate_with(core, key, fraction, grid);

@@ -24,7 +24,8 @@ use Rattle.edge_values.specs.declared.PlainSketch.{PlainSketch}
 use Rattle.edge_values.specs.declared.PlainSettings.{PlainSettings}
 use Rattle.edge_values.specs.declared.PlainChange.{PlainChange}
 use Rattle.edge_values.specs.declared.PlainAnswer.{PlainAnswer}
-use Rattle.edge_values.specs.Edge.{clockOf, sketchOf, sketchWith, settingsOf, readingIn, readingAfter, stateAfter, toldOf, changedOf, inPlace, plainWith, plainOf, plainWatch, startOf, watchedOf, askedOf, readingOf, valueOf, figureOf, verdictOf, foundOf, auditOf, drawnOf}
+use Rattle.edge_values.specs.Edge.{clockOf, sketchOf, sketchWith, settingsOf, readingAfter, stateAfter, toldOf, changedOf, inPlace, plainWith, plainOf, plainWatch, startOf, watchedOf, askedOf, valueOf, figureOf, verdictOf, foundOf, auditOf, drawnOf, plainReading}
+use Rattle.clock.specs.Clock.{readingOf}
 
 -- THE CLOCK of a kind
 module _ (kind length epoch reading : ℕ) where
@@ -57,12 +58,10 @@ module _ (k : MicroCm) (length : ℕ) where
   unfolding plainWith
   time-plain epoch now e = rw e refl
 
-pub reading-count : (clock : SubWindowClock) (length seen : ℕ) → clock ≡ CountBased length seen → seen ≡ readingIn clock
-unfolding readingIn
+pub reading-count : (clock : SubWindowClock) (length seen : ℕ) → clock ≡ CountBased length seen → seen ≡ readingOf clock
 reading-count clock length seen e = rw e refl
 
-pub reading-time : (clock : SubWindowClock) (length epoch now : ℕ) → clock ≡ TimeBased length epoch now → now ≡ readingIn clock
-unfolding readingIn
+pub reading-time : (clock : SubWindowClock) (length epoch now : ℕ) → clock ≡ TimeBased length epoch now → now ≡ readingOf clock
 reading-time clock length epoch now e = rw e refl
 
 pub core-with-is : (m : PlainSettings) (reading state : ℕ) (s : PlainSketch) (k : MicroCm) → s ≡ sketchWith m reading state → k ≡ sketchOf s → k ≡ sketchOf (sketchWith m reading state)
@@ -101,12 +100,12 @@ change-is r n i en ei = rw (en, ei) refl
 
 module _ (r : SketchAnswer) (ok : Bool) (asked : ok ≡ isAccepted (r .verdict)) where
   pub reading-left : not ok ≡ true → (reading : ℕ) → reading ≡ readingAfter reading r
-  reading-left h reading = sym (refused-leaves (r .verdict) (readingIn (r .sketch .clock)) reading (turned-back (r .verdict) ok asked h))
+  reading-left h reading = sym (refused-leaves (r .verdict) (readingOf (r .sketch .clock)) reading (turned-back (r .verdict) ok asked h))
 
   pub state-left : not ok ≡ true → (state : ℕ) → state ≡ stateAfter state r
   state-left h state = sym (refused-leaves (r .verdict) (r .sketch .rounding .state) state (turned-back (r .verdict) ok asked h))
 
-  pub reading-put : not ok ≡ false → (reading reading' : ℕ) → reading' ≡ readingIn (r .sketch .clock) → reading' ≡ readingAfter reading r
+  pub reading-put : not ok ≡ false → (reading reading' : ℕ) → reading' ≡ readingOf (r .sketch .clock) → reading' ≡ readingAfter reading r
   reading-put h reading reading' e = e ∙ rw (let-pass (r .verdict) ok asked h) refl
 
   pub state-put : not ok ≡ false → (state : ℕ) → r .sketch .rounding .state ≡ stateAfter state r
@@ -130,7 +129,7 @@ pub reading-is : (r : ReadingAnswer) (n i : ℕ) → n ≡ numberOf (r .verdict)
       fraction = r .reading .fraction;
       «over_items» = r .over;
       «under_items» = r .under;
-    } ≡ readingOf r
+    } ≡ plainReading r
 reading-is r n i en ei = rw (en, ei) refl
 
 module _ (r : AuditAnswer) (n : ℕ) (en : n ≡ numberOf (r .verdict)) where

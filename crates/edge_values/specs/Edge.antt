@@ -15,6 +15,7 @@ use Rattle.cell.specs.declared.CellAnswer.{CellAnswer}
 use Rattle.cell.specs.Refusals.{CellOutcome}
 use Rattle.clock.specs.declared.SubWindowClock.{SubWindowClock}
 use Rattle.clock.specs.declared.SubWindowClock.the-variants.{CountBased, TimeBased}
+use Rattle.clock.specs.Clock.{readingOf}
 use Rattle.sketch.specs.declared.MicroCm.{MicroCm}
 use Rattle.sketch.specs.declared.SketchAnswer.{SketchAnswer}
 use Rattle.sketch.specs.declared.ReadingAnswer.{ReadingAnswer}
@@ -108,10 +109,6 @@ plainOutcome r g = record { answer = r; grid = g }
 
 -- A CALL THAT CHANGES A SKETCH: if it is accepted the clock's reading and the random state are those that it left, and nothing else
 -- of the sketch is changed; if it is refused all is as it came
-unfoldable pub readingIn : SubWindowClock → ℕ
-readingIn (CountBased length seen) = seen
-readingIn (TimeBased length epoch now) = now
-
 abbrev pub settingsOf : PlainSketch → PlainSettings
 settingsOf s =
     record { rows = s .rows; cols = s .cols; t = s .t; c = s .c; kind = s .kind; length = s .length; epoch = s .epoch }
@@ -131,7 +128,7 @@ sketchWith m reading state =
     }
 
 abbrev pub readingAfter : ℕ → SketchAnswer → ℕ
-readingAfter reading r = whenAccepted (r .verdict) (readingIn (r .sketch .clock)) reading
+readingAfter reading r = whenAccepted (r .verdict) (readingOf (r .sketch .clock)) reading
 
 abbrev pub stateAfter : ℕ → SketchAnswer → ℕ
 stateAfter state r = whenAccepted (r .verdict) (r .sketch .rounding .state) state
@@ -157,8 +154,8 @@ inPlace m r reading state =
     record { number = r .number; draws = r .draws; index = r .index; sketch = sketchWith m reading state }
 
 -- READINGS
-abbrev pub readingOf : ReadingAnswer → PlainReading
-readingOf r =
+abbrev pub plainReading : ReadingAnswer → PlainReading
+plainReading r =
     record {
       number = numberOf (r .verdict);
       index = indexOf (r .verdict);

@@ -15,7 +15,8 @@ use sketch::ReadingAnswer;
 use sketch::SketchAnswer;
 ghost use mathlib.Core.Path.{_≡_};
 ghost use Rattle.refusal.specs.Refusals.{numberOf};
-ghost use Rattle.edge_values.specs.Edge.{clockOf, sketchOf, settingsOf, sketchWith, readingIn, readingAfter, stateAfter, toldOf, changedOf, inPlace, plainOf, watchOf, plainWatch, startOf, watchedOf, askedOf, readingOf, valueOf, figureOf, verdictOf, auditOf, drawnOf};
+ghost use Rattle.edge_values.specs.Edge.{clockOf, sketchOf, settingsOf, sketchWith, readingAfter, stateAfter, toldOf, changedOf, inPlace, plainOf, watchOf, plainWatch, startOf, watchedOf, askedOf, valueOf, figureOf, verdictOf, auditOf, drawnOf, plainReading};
+ghost use Rattle.clock.specs.Clock.{readingOf};
 
 // A sketch as plain numbers. `kind` is 0 for a clock that counts items, 1 for one of time; `reading` is the items seen,
 // or the time now; `epoch` is looked at for a clock of time only.
@@ -295,7 +296,7 @@ fn number(verdict: Verdict) -> u64
 }
 
 fn reading_in(clock: SubWindowClock) -> u64
-    ensures { λ r. ⌜ r ≡ readingIn clock ⌝ }
+    ensures { λ r. ⌜ r ≡ readingOf clock ⌝ }
 {
     match clock {
         SubWindowClock::CountBased { seen, .. } => seen,
@@ -395,7 +396,7 @@ pub fn asked(answer: AskAnswer) -> PlainAsked
 }
 
 pub fn reading(answer: ReadingAnswer) -> PlainReading
-    ensures { λ r. ⌜ r ≡ readingOf answer ⌝ }
+    ensures { λ r. ⌜ r ≡ plainReading answer ⌝ }
 {
     let verdict = answer.verdict;
     let figures = answer.reading;

@@ -35,3 +35,7 @@ abbrev pub whenAccepted {ℓ} : {A : Type ℓ} → Verdict → A → A → A
 whenAccepted Accepted done left = done
 whenAccepted (Refused k) done left = left
 whenAccepted (Unsound j) done left = left
+
+-- a verdict that was reached, and where it accepts, what the causes behind it say
+abbrev pub andThen : Verdict → Verdict → Verdict
+andThen v rest = whenAccepted v rest v

@@ -22,16 +22,12 @@ pub record ServiceOutcome : Type 0 where
 abbrev pub serviceOutcome : ServiceAnswer → List ℕ → ServiceOutcome
 serviceOutcome r g = record { answer = r; grid = g }
 
--- A FRESH START: document 01's, and no codes
-abbrev pub startOf : SketchOutcome → ServiceOutcome
-startOf o = serviceOutcome (served (o .answer .verdict) (o .answer .sketch)) (o .grid)
+-- A FRESH START and A LOAD: document 01's, and no codes
+abbrev pub withoutCodes : SketchOutcome → ServiceOutcome
+withoutCodes o = serviceOutcome (served (o .answer .verdict) (o .answer .sketch)) (o .grid)
 
 abbrev pub startCall : ℕ → ℕ → MicroParams → SubWindowClock → ℕ → List ℕ → ServiceOutcome
-startCall rows cols p clock seed g = startOf (freshCall rows cols p clock seed g)
-
--- A LOAD: document 01's, and no codes
-abbrev pub loadOf : stored.LoadOutcome → ServiceOutcome
-loadOf o = serviceOutcome (served (o .answer .verdict) (o .answer .sketch)) (o .grid)
+startCall rows cols p clock seed g = withoutCodes (freshCall rows cols p clock seed g)
 
 abbrev pub loadCall : List ℕ → List ℕ → ServiceOutcome
-loadCall g store = loadOf (stored.loadCall g store)
+loadCall g store = withoutCodes (stored.loadCall g store)

@@ -19,8 +19,9 @@ use Rattle.cell.specs.Cell.{depthOf}
 use Rattle.clock.specs.declared.SubWindowClock.{SubWindowClock}
 use Rattle.clock.specs.Clock.{startOf}
 use Rattle.sketch.specs.declared.MicroCm.{MicroCm}
+use Rattle.sketch.specs.declared.SketchAnswer.{SketchAnswer}
 use Rattle.sketch.specs.Sketch.{World, freshSketch, freshGrid, gridBytes}
-use Rattle.sketch.specs.Refusals.{refuseSettings, sketchOutcome, noSketch, world, freshCall}
+use Rattle.sketch.specs.Refusals.{refuseSettings, sketchOutcome, noSketch, world, freshCall, undrawn}
 use Rattle.sketch.proofs.SettingsLaws.{GoodSettings, not-false, good-settings}
 use Rattle.sketch.proofs.SketchGates.{settingsOf, settings-gate}
 use Rattle.sketch.proofs.AddressLaws.{product-le}
@@ -74,19 +75,18 @@ module _ (rows cols : ℕ) (p : MicroParams) (clock : SubWindowClock) where
     abbrev made : MicroCm
     made = freshSketch rows cols p clock seed
 
-    pub fresh-refused : (none : MicroCm) → none ≡ noSketch → not ok ≡ true → sketchOutcome (record { verdict = v; sketch = none; draws = 0 }) g ≡ freshCall rows cols p clock seed g
+    pub fresh-refused : (none : MicroCm) → none ≡ noSketch → (r : SketchAnswer) → r ≡ undrawn v none → not ok ≡ true → sketchOutcome r g ≡ freshCall rows cols p clock seed g
     unfolding freshCall
-    fresh-refused none en n =
-        let left : world noSketch g ≡ whenAccepted v (world made (freshGrid made)) (world noSketch g) = sym (refused-leaves v (world made (freshGrid made)) (world noSketch g) (turned-back v ok asked n)) in
-        rw (en, ← ev) (ap (λ (w : World). sketchOutcome (record { verdict = v; sketch = w .sketch; draws = w .draws }) (w .grid)) left)
+    fresh-refused none en r er n = rw (er, en, ← ev, refused-leaves v (world made (freshGrid made)) (world noSketch g) (turned-back v ok asked n)) refl
 
     module _ (a : not ok ≡ false) where
       room : length g ≡ gridBytes made
       room = eqb-true _ _ (not-false _ (not-refused 6 (not (eqb (length g) (gridBytes made))) Accepted (gate-passed (settingsOf given) (settings-gate given) (refuseSize (length g)) (sym ev ∙ let-pass v ok asked a) .1) .0))
 
       pub fresh-made : (g' : List ℕ) (started : SubWindowClock) (rounding : Rounding) → g' ≡ replicate (length g) 0 → started ≡ startOf clock → rounding .state ≡ seeded seed
-          → sketchOutcome (record { verdict = v; sketch = record { rows = rows; cols = cols; params = p; clock = started; rounding = rounding }; draws = 0 }) g' ≡ freshCall rows cols p clock seed g
+          → (r : SketchAnswer) → r ≡ undrawn v (record { rows = rows; cols = cols; params = p; clock = started; rounding = rounding })
+          → sketchOutcome r g' ≡ freshCall rows cols p clock seed g
       unfolding freshCall
-      fresh-made g' started rounding eg es er =
-          let state : _≡_ {A = Rounding} rounding (record { state = seeded seed }) = ap (λ (s : ℕ). record { state = s }) er in
-          rw (← ev, let-pass v ok asked a, eg, room, es, state) refl
+      fresh-made g' started rounding eg es es' r er =
+          let state : _≡_ {A = Rounding} rounding (record { state = seeded seed }) = ap (λ (s : ℕ). record { state = s }) es' in
+          rw (er, ← ev, let-pass v ok asked a, eg, room, es, state) refl

@@ -10,7 +10,8 @@ use Rattle.refusal.specs.declared.Verdict.the-variants.{Accepted}
 use Rattle.refusal.specs.Refusals.{isAccepted, refuse}
 use Rattle.refusal.proofs.VerdictLaws.{accepted-is, refuse-then}
 use Rattle.refusal.proofs.GateLaws.{Gate, gate-chain, gate-open, gate-shut}
-use Rattle.clock.specs.Clock.{GoodLength, fractionOf}
+use Rattle.clock.specs.Clock.{fractionOf}
+use Rattle.clock.specs.Workers.{GoodLength}
 use Rattle.clock.proofs.ClockLaws.{fraction-in-unit}
 use Rattle.sketch.specs.declared.MicroCm.{MicroCm}
 use Rattle.sketch.specs.Sketch.{keyCells}

@@ -63,6 +63,6 @@ abbrev pub meanOf : MicroCm → List ℕ → List ℕ → ℕ
 meanOf k g key = underOf k g key / k .params .t
 
 -- ONE READING with a fraction: every Over and Under figure is below 2 ^ 53, so its f64 is exact
-abbrev pub readingOf : MicroCm → List ℕ → List ℕ → Float → Reading
-readingOf k g key fraction =
+abbrev pub oneReading : MicroCm → List ℕ → List ℕ → Float → Reading
+oneReading k g key fraction =
     record { over = figure (overOf k g key); under = figure (underOf k g key); linear = linearOf k g key fraction; fraction = fraction }

@@ -9,7 +9,7 @@ use Rattle.laws.specs.Figure.{figure}
 use Rattle.laws.specs.Unit.{inUnit}
 use Rattle.refusal.specs.declared.Verdict.{Verdict}
 use Rattle.refusal.specs.declared.Verdict.the-variants.{Accepted, Unsound}
-use Rattle.refusal.specs.Refusals.{numberOf, whenAccepted}
+use Rattle.refusal.specs.Refusals.{numberOf, whenAccepted, andThen}
 use Rattle.refusal.specs.Causes.{Cause, cause, unsound, refuseBy}
 use Rattle.rounding.specs.Refusals.{refuseState}
 use Rattle.cell.specs.declared.MicroParams.{MicroParams}
@@ -27,7 +27,7 @@ use Rattle.sketch.specs.declared.HighestAnswer.{HighestAnswer}
 use Rattle.sketch.specs.declared.AuditAnswer.{AuditAnswer}
 use Rattle.sketch.specs.declared.Finding.the-variants as finding
 use Rattle.sketch.specs.Sketch.{gridBytes, cellIndex, cellOf, keyCells, allCells, freshSketch, freshGrid, World, updated, advanced, updatedAt}
-use Rattle.sketch.specs.Figures.{overOf, underOf, meanOf, hasOldest, readingOf}
+use Rattle.sketch.specs.Figures.{overOf, underOf, meanOf, hasOldest, oneReading}
 use Rattle.sketch.specs.Merge.{merged}
 use Rattle.sketch.specs.Audit.{firstUnsound, auditOf, highestZoom}
 
@@ -118,6 +118,15 @@ refuseUnsound k g cells rest = firstUnsound Unsound rest k g cells
 abbrev pub judgedCells : MicroCm → SubWindowClock → List ℕ → List ℕ
 judgedCells k clock cells = cond (eqb (nOf clock) (nOf (k .clock))) cells (allCells k)
 
+-- an item for a sketch that takes this clock by the call: 1 to 7, what is asked between 7 and 14, and 14 over the key's cells
+abbrev pub itemVerdict : MicroCm → List ℕ → List ℕ → SubWindowClock → (Verdict → Verdict) → Verdict
+itemVerdict k key g clock between =
+    refuseSketch k g (refuseKey k key (between (refuseUnsound k g (judgedCells k clock (keyCells k 0 key)) Accepted)))
+
+-- and no item: within its sub-window it judges no cell
+abbrev pub moveVerdict : MicroCm → List ℕ → SubWindowClock → (Verdict → Verdict) → Verdict
+moveVerdict k g clock between = refuseSketch k g (between (refuseUnsound k g (judgedCells k clock []) Accepted))
+
 -- A CALL THAT MAY CHANGE THE SKETCH: everything it gives, and the grid that it leaves
 pub record SketchOutcome : Type 0 where
   pub answer : SketchAnswer
@@ -126,11 +135,16 @@ pub record SketchOutcome : Type 0 where
 abbrev pub sketchOutcome : SketchAnswer → List ℕ → SketchOutcome
 sketchOutcome r g = record { answer = r; grid = g }
 
+-- the answer of a call that led to this world, and of one that drew nothing
+abbrev pub answered : Verdict → World → SketchAnswer
+answered v w = record { verdict = v; sketch = w .sketch; draws = w .draws }
+
+abbrev pub undrawn : Verdict → MicroCm → SketchAnswer
+undrawn v k = record { verdict = v; sketch = k; draws = 0 }
+
 -- the world after it if the call is accepted, and all as it was if not
 abbrev pub sketchCall : Verdict → World → World → SketchOutcome
-sketchCall v after before =
-    let w = whenAccepted v after before in
-    sketchOutcome (record { verdict = v; sketch = w .sketch; draws = w .draws }) (w .grid)
+sketchCall v after before = let w = whenAccepted v after before in sketchOutcome (answered v w) (w .grid)
 
 -- as a call finds it
 abbrev pub world : MicroCm → List ℕ → World
@@ -150,24 +164,19 @@ freshCall rows cols p clock seed g =
     sketchCall (freshVerdict rows cols p clock seed g) (world k (freshGrid k)) (world noSketch g)
 
 abbrev pub updateVerdict : MicroCm → List ℕ → List ℕ → Verdict
-updateVerdict k key g =
-    refuseSketch k g (refuseKey k key (refuseTimed k (refuseUnsound k g (judgedCells k (tickOf (k .clock)) (keyCells k 0 key)) Accepted)))
+updateVerdict k key g = itemVerdict k key g (tickOf (k .clock)) (refuseTimed k)
 
 unfoldable pub updateCall : MicroCm → List ℕ → List ℕ → SketchOutcome
 updateCall k key g = sketchCall (updateVerdict k key g) (updated key (world k g)) (world k g)
 
 abbrev pub updateAtVerdict : MicroCm → List ℕ → ℕ → List ℕ → Verdict
-updateAtVerdict k key reading g =
-    refuseSketch k g
-    (refuseKey k key (refuseCounted k (refuseUnsound k g (judgedCells k (advanceOf (k .clock) reading) (keyCells k 0 key)) Accepted)))
+updateAtVerdict k key reading g = itemVerdict k key g (advanceOf (k .clock) reading) (refuseCounted k)
 
 unfoldable pub updateAtCall : MicroCm → List ℕ → ℕ → List ℕ → SketchOutcome
 updateAtCall k key reading g = sketchCall (updateAtVerdict k key reading g) (updatedAt key reading (world k g)) (world k g)
 
--- an advance within its sub-window judges no cell
 abbrev pub advanceVerdict : MicroCm → ℕ → List ℕ → Verdict
-advanceVerdict k reading g =
-    refuseSketch k g (refuseCounted k (refuseUnsound k g (judgedCells k (advanceOf (k .clock) reading) []) Accepted))
+advanceVerdict k reading g = moveVerdict k g (advanceOf (k .clock) reading) (refuseCounted k)
 
 unfoldable pub advanceCall : MicroCm → ℕ → List ℕ → SketchOutcome
 advanceCall k reading g = sketchCall (advanceVerdict k reading g) (advanced reading (world k g)) (world k g)
@@ -187,7 +196,7 @@ abbrev pub readingAnswer : Verdict → MicroCm → List ℕ → List ℕ → Flo
 readingAnswer v k g key fraction =
     record {
       verdict = v;
-      reading = whenAccepted v (readingOf k g key fraction) noReading;
+      reading = whenAccepted v (oneReading k g key fraction) noReading;
       over = whenAccepted v (overOf k g key) 0;
       under = whenAccepted v (underOf k g key) 0;
     }
@@ -226,17 +235,15 @@ auditCall k g = record { verdict = sketchVerdict k g; audit = whenAccepted (sket
 abbrev pub lowerOf : Verdict → Verdict → Verdict
 lowerOf v v' = whenAccepted v v' (whenAccepted v' v (cond (leb (numberOf v) (numberOf v')) v v'))
 
-abbrev pub refuseEither : Verdict → Verdict → Verdict → Verdict
-refuseEither v v' rest = whenAccepted (lowerOf v v') rest (lowerOf v v')
+-- 10, then 11 (kind, length or epoch), 12 (n)
+abbrev pub refusePair : MicroCm → MicroCm → Verdict → Verdict
+refusePair k k' rest = refuseBy (otherShape k k') (refuseBy (otherFrame k k') (refuseBy (otherSubWindow k k') rest))
 
--- 10, then 11 (kind, length or epoch), 12 (n), and 14: the receiving grid is searched first
+-- and 14: the receiving grid is searched first
 abbrev pub mergeVerdict : MicroCm → List ℕ → MicroCm → List ℕ → Verdict
 mergeVerdict k g k' g' =
-    refuseEither (sketchVerdict k g) (sketchVerdict k' g')
-    (refuseBy (otherShape k k')
-    (refuseBy (otherFrame k k')
-    (refuseBy (otherSubWindow k k')
-    (refuseUnsound k g (allCells k) (refuseUnsound k' g' (allCells k') Accepted)))))
+    andThen (lowerOf (sketchVerdict k g) (sketchVerdict k' g'))
+    (refusePair k k' (refuseUnsound k g (allCells k) (refuseUnsound k' g' (allCells k') Accepted)))
 
 -- the other grid is lent to be read only
 unfoldable pub mergeCall : MicroCm → List ℕ → MicroCm → List ℕ → SketchOutcome

@@ -56,14 +56,13 @@ pub record World : Type 0 where
   pub grid : List ℕ
   pub draws : ℕ
 
+-- the sketch with another clock and another random state
+abbrev pub taking : MicroCm → SubWindowClock → ℕ → MicroCm
+taking k clock σ = record { rows = k .rows; cols = k .cols; params = k .params; clock = clock; rounding = record { state = σ } }
+
 -- the sketch goes on with this clock, and with what a step on its grid leaves
 abbrev pub goesOn : World → SubWindowClock → Step → World
-goesOn w clock s =
-    record {
-      sketch = record { rows = w .sketch .rows; cols = w .sketch .cols; params = w .sketch .params; clock = clock; rounding = record { state = s .state } };
-      grid = s .bytes;
-      draws = w .draws + s .draws;
-    }
+goesOn w clock s = record { sketch = taking (w .sketch) clock (s .state); grid = s .bytes; draws = w .draws + s .draws }
 
 -- an item inserted into the j-th cell
 unfoldable pub insertAt : MicroCm → ℕ → ℕ → List ℕ → ℕ → Step

@@ -9,17 +9,18 @@ use native.Mathlib.Nat.{zero-add}
 use borrow.Author.Tests.{eq-eqb, ne-eqb}
 use Rattle.laws.specs.Steps.{Step}
 use Rattle.refusal.specs.declared.Verdict.{Verdict}
-use Rattle.refusal.specs.Refusals.{isAccepted}
+use Rattle.refusal.specs.Refusals.{isAccepted, refuse}
 use Rattle.refusal.proofs.VerdictLaws.{refused-leaves, turned-back, let-pass}
 use Rattle.clock.specs.declared.SubWindowClock.{SubWindowClock}
-use Rattle.clock.specs.Clock.{Onward, nOf, isCount, tickOf, advanceOf}
+use Rattle.clock.specs.Clock.{nOf, isCount, tickOf, advanceOf}
+use Rattle.clock.specs.Workers.{Onward}
 use Rattle.sketch.specs.declared.MicroCm.{MicroCm}
 use Rattle.sketch.specs.declared.Passed.{Passed}
-use Rattle.sketch.specs.Sketch.{World, moved, updated, updatedAt, advanced}
-use Rattle.sketch.specs.Refusals.{sketchOutcome, sketchCall, world, updateVerdict, updateCall, updateAtVerdict, updateAtCall, advanceVerdict, advanceCall}
+use Rattle.sketch.specs.Sketch.{World, moved, updated, updatedAt, advanced, taking}
+use Rattle.sketch.specs.Refusals.{sketchOutcome, sketchCall, world, updateVerdict, updateCall, updateAtVerdict, updateAtCall, advanceVerdict, advanceCall, itemVerdict, moveVerdict}
 use Rattle.sketch.specs.Workers.{passOf}
 use Rattle.sketch_counting.specs.declared.worker.Counted.{Counted}
-use Rattle.sketch_counting.specs.Workers.{SubWindows, cross, itemVerdict, moveVerdict, itemOf, itemCounted, countedOf, taking}
+use Rattle.sketch_counting.specs.Workers.{SubWindows, cross, itemOf, itemCounted, countedOf}
 use Rattle.sketch_counting.proofs.MoveLaws.{cross-rose}
 use Rattle.sketch_counting.proofs.ItemLaws.{left, item-first, item-last}
 
@@ -51,7 +52,7 @@ module _ (k : MicroCm) (key g l : List ℕ) (old new n : ℕ) (r : Counted) (ec 
 
 module _ (k : MicroCm) (g : List ℕ) (clock : SubWindowClock) (counts : Bool) (ek : counts ≡ isCount (k .clock)) where
   -- `update`
-  module _ (key l : List ℕ) (old new n : ℕ) (r : Counted) (on : Onward (k .clock) (tickOf (k .clock)) clock) (ev : r .verdict ≡ itemVerdict k key g clock (not counts))
+  module _ (key l : List ℕ) (old new n : ℕ) (r : Counted) (on : Onward (k .clock) (tickOf (k .clock)) clock) (ev : r .verdict ≡ itemVerdict k key g clock (refuse 8 (not counts)))
       (ec : countedOf l r ≡ itemCounted (r .verdict) k key old new n g) (ok : Bool) (asked : ok ≡ isAccepted (r .verdict)) where
     update-told : r .verdict ≡ updateVerdict k key g
     update-told = ev ∙ rw (on .is, ek) refl
@@ -69,7 +70,7 @@ module _ (k : MicroCm) (g : List ℕ) (clock : SubWindowClock) (counts : Bool) (
 
   module _ (timestamp : ℕ) (on : Onward (k .clock) (advanceOf (k .clock) timestamp) clock) where
     -- `update_at`
-    module _ (key l : List ℕ) (old new n : ℕ) (r : Counted) (ev : r .verdict ≡ itemVerdict k key g clock counts) (ec : countedOf l r ≡ itemCounted (r .verdict) k key old new n g) (ok : Bool) (asked : ok ≡ isAccepted (r .verdict)) where
+    module _ (key l : List ℕ) (old new n : ℕ) (r : Counted) (ev : r .verdict ≡ itemVerdict k key g clock (refuse 8 counts)) (ec : countedOf l r ≡ itemCounted (r .verdict) k key old new n g) (ok : Bool) (asked : ok ≡ isAccepted (r .verdict)) where
       update-at-told : r .verdict ≡ updateAtVerdict k key timestamp g
       update-at-told = ev ∙ rw (on .is, ek) refl
 
@@ -85,7 +86,7 @@ module _ (k : MicroCm) (g : List ℕ) (clock : SubWindowClock) (counts : Bool) (
           (ap (left k clock) (counted k key g l old new n r ec ok asked a ∙ rw own refl) ∙ item-last k key g clock old new (at .before-is) (at .after-is) ∙ rw (on .is) refl))
 
     -- `advance_to`
-    module _ (v : Verdict) (ev : v ≡ moveVerdict k g clock counts) (ok : Bool) (asked : ok ≡ isAccepted v) where
+    module _ (v : Verdict) (ev : v ≡ moveVerdict k g clock (refuse 8 counts)) (ok : Bool) (asked : ok ≡ isAccepted v) where
       advance-told : v ≡ advanceVerdict k timestamp g
       advance-told = ev ∙ rw (on .is, ek) refl
 

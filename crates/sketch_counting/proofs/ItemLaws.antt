@@ -14,10 +14,10 @@ use Rattle.clock.specs.declared.SubWindowClock.{SubWindowClock}
 use Rattle.clock.specs.Clock.{nOf}
 use Rattle.sketch.specs.declared.MicroCm.{MicroCm}
 use Rattle.sketch.specs.declared.Passed.{Passed}
-use Rattle.sketch.specs.Sketch.{cellIndex, keyCells, insertAt, insertEach, crossEach, World, recorded, moved}
+use Rattle.sketch.specs.Sketch.{cellIndex, keyCells, insertAt, insertEach, crossEach, World, recorded, moved, taking}
 use Rattle.sketch.specs.Refusals.{world}
 use Rattle.sketch.specs.Workers.{passOf}
-use Rattle.sketch_counting.specs.Workers.{cross, itemOf, itemCounted, countedOf, taking}
+use Rattle.sketch_counting.specs.Workers.{cross, itemOf, itemCounted, countedOf}
 use Rattle.sketch_counting.proofs.MoveLaws.{cross-rose}
 
 -- THE STEPS, one after another

@@ -18,7 +18,7 @@ use Rattle.clock.specs.Clock.{nOf}
 use Rattle.sketch.specs.declared.MicroCm.{MicroCm}
 use Rattle.sketch.specs.declared.Passed.{Passed}
 use Rattle.sketch.specs.Sketch.{cellsOf, keyCells, allCells, insertEach, crossEach}
-use Rattle.sketch.specs.Refusals.{allBelow, keyFits, refuseSketch, refuseKey, refuseUnsound, judgedCells, sketchVerdict}
+use Rattle.sketch.specs.Refusals.{allBelow, keyFits, refuseSketch, refuseKey, refuseUnsound, judgedCells, sketchVerdict, itemVerdict, moveVerdict}
 use Rattle.sketch.specs.Workers.{Ready, Judged, Readable, SoundCells, passOf}
 use Rattle.sketch.proofs.AddressLaws.{cells-few, cells-fit}
 use Rattle.sketch.proofs.JudgedLaws.{judged-all, sound-cells}
@@ -27,7 +27,7 @@ use Rattle.sketch.proofs.KeyLaws.{key-cells-below}
 use Rattle.sketch.proofs.WorldLaws.{Good, fits-key, none-unsound, insert-each-good, cross-each-good}
 use Rattle.sketch.proofs.ReadyLaws.{ready-of, alive-of, keyed-ready}
 use Rattle.sketch.proofs.SketchGates.{sketch-gate}
-use Rattle.sketch_counting.specs.Workers.{SoundIf, SubWindows, cross, itemVerdict, moveVerdict}
+use Rattle.sketch_counting.specs.Workers.{SoundIf, SubWindows, cross}
 use Rattle.sketch_counting.proofs.VerdictCases.{keyed, keyed-gate}
 
 -- where n rises every cell was judged
@@ -38,7 +38,7 @@ good-of : (k : MicroCm) (g : List ℕ) → sketchVerdict k g ≡ Accepted → Ju
 good-of k g e w = record { whole = ready-of k g e .size-is; alive = alive-of k g e; sound = λ j l. judged-all k g j w l }
 
 -- AN ITEM that was accepted
-module _ (k : MicroCm) (key g : List ℕ) (clock : SubWindowClock) (wrong : Bool) (v : Verdict) (ev : v ≡ itemVerdict k key g clock wrong) (ok : Bool) (asked : ok ≡ isAccepted v) (a : not ok ≡ false) where
+module _ (k : MicroCm) (key g : List ℕ) (clock : SubWindowClock) (wrong : Bool) (v : Verdict) (ev : v ≡ itemVerdict k key g clock (refuse 8 wrong)) (ok : Bool) (asked : ok ≡ isAccepted v) (a : not ok ≡ false) where
   abbrev cells : Verdict
   cells = refuseUnsound k g (judgedCells k clock (keyCells k 0 key)) Accepted
 
@@ -131,7 +131,7 @@ module _ (k : MicroCm) (key g : List ℕ) (clock : SubWindowClock) (wrong : Bool
   few-draws-more x y z hx hy hz = omega (arith, cells-few k (length g) ready)
 
 -- NO ITEM, accepted
-module _ (k : MicroCm) (g : List ℕ) (clock : SubWindowClock) (wrong : Bool) (v : Verdict) (ev : v ≡ moveVerdict k g clock wrong) (ok : Bool) (asked : ok ≡ isAccepted v) (a : not ok ≡ false) where
+module _ (k : MicroCm) (g : List ℕ) (clock : SubWindowClock) (wrong : Bool) (v : Verdict) (ev : v ≡ moveVerdict k g clock (refuse 8 wrong)) (ok : Bool) (asked : ok ≡ isAccepted v) (a : not ok ≡ false) where
   abbrev all : Verdict
   all = refuseUnsound k g (judgedCells k clock []) Accepted
 

@@ -15,12 +15,11 @@ use Rattle.clock.specs.declared.SubWindowClock.{SubWindowClock}
 use Rattle.clock.specs.Clock.{nOf}
 use Rattle.sketch.specs.declared.MicroCm.{MicroCm}
 use Rattle.sketch.specs.Sketch.{keyCells, allCells}
-use Rattle.sketch.specs.Refusals.{keyFits, refuseSketch, refuseKey, refuseUnsound, judgedCells, sketchVerdict}
+use Rattle.sketch.specs.Refusals.{keyFits, refuseSketch, refuseKey, refuseUnsound, judgedCells, sketchVerdict, itemVerdict, moveVerdict}
 use Rattle.sketch.specs.Audit.{firstUnsound}
 use Rattle.sketch.specs.Workers.{Ready}
 use Rattle.sketch.proofs.ReadyLaws.{ready-of, keyed-ready}
 use Rattle.sketch.proofs.SketchGates.{sketch-gate}
-use Rattle.sketch_counting.specs.Workers.{itemVerdict, moveVerdict}
 
 -- 1 to 7
 abbrev pub keyed : MicroCm → List ℕ → List ℕ → Verdict → Verdict
@@ -43,7 +42,7 @@ module _ (k : MicroCm) (g : List ℕ) (after : SubWindowClock) (rises : Bool) (e
 
 -- AN ITEM
 module _ (k : MicroCm) (key g : List ℕ) (after : SubWindowClock) (wrong : Bool) (v : Verdict) (ev : v ≡ keyed k key g Accepted) (ok : Bool) (asked : ok ≡ isAccepted v) where
-  pub item-refused : not ok ≡ true → v ≡ itemVerdict k key g after wrong
+  pub item-refused : not ok ≡ true → v ≡ itemVerdict k key g after (refuse 8 wrong)
   item-refused n = sym (gate-shut (keyed k key g) (keyed-gate k key g) _ v ev (turned-back v ok asked n))
 
   module _ (a : not ok ≡ false) where
@@ -56,38 +55,38 @@ module _ (k : MicroCm) (key g : List ℕ) (after : SubWindowClock) (wrong : Bool
     pub item-fits : keyFits k key ≡ true
     item-fits = keyed-ready k key g passed .1
 
-    kind-left : itemVerdict k key g after wrong ≡ refuse 8 wrong (refuseUnsound k g (judgedCells k after (keyCells k 0 key)) Accepted)
+    kind-left : itemVerdict k key g after (refuse 8 wrong) ≡ refuse 8 wrong (refuseUnsound k g (judgedCells k after (keyCells k 0 key)) Accepted)
     kind-left = gate-open (keyed k key g) (keyed-gate k key g) _ passed
 
-    pub item-wrong : wrong ≡ true → Refused 8 ≡ itemVerdict k key g after wrong
+    pub item-wrong : wrong ≡ true → Refused 8 ≡ itemVerdict k key g after (refuse 8 wrong)
     item-wrong h = sym (kind-left ∙ rw h refl)
 
     module _ (right : wrong ≡ false) (rises : Bool) (er : rises ≡ not (eqb (nOf after) (nOf (k .clock)))) (u : Verdict) where
-      pub item-all : rises ≡ true → u ≡ refuseUnsound k g (allCells k) Accepted → u ≡ itemVerdict k key g after wrong
+      pub item-all : rises ≡ true → u ≡ refuseUnsound k g (allCells k) Accepted → u ≡ itemVerdict k key g after (refuse 8 wrong)
       item-all h e = e ∙ sym (kind-left ∙ rw right (cells-all k g after rises er (keyCells k 0 key) h))
 
-      pub item-key : rises ≡ false → u ≡ refuseUnsound k g (keyCells k 0 key) Accepted → u ≡ itemVerdict k key g after wrong
+      pub item-key : rises ≡ false → u ≡ refuseUnsound k g (keyCells k 0 key) Accepted → u ≡ itemVerdict k key g after (refuse 8 wrong)
       item-key h e = e ∙ sym (kind-left ∙ rw right (cells-stay k g after rises er (keyCells k 0 key) h))
 
 -- NO ITEM
 module _ (k : MicroCm) (g : List ℕ) (after : SubWindowClock) (wrong : Bool) (v : Verdict) (ev : v ≡ sketchVerdict k g) (ok : Bool) (asked : ok ≡ isAccepted v) where
-  pub movement-refused : not ok ≡ true → v ≡ moveVerdict k g after wrong
+  pub movement-refused : not ok ≡ true → v ≡ moveVerdict k g after (refuse 8 wrong)
   movement-refused n = sym (gate-shut (refuseSketch k g) (sketch-gate k g) _ v ev (turned-back v ok asked n))
 
   module _ (a : not ok ≡ false) where
     pub movement-ready : Ready k (length g)
     movement-ready = ready-of k g (sym ev ∙ let-pass v ok asked a)
 
-    movement-left : moveVerdict k g after wrong ≡ refuse 8 wrong (refuseUnsound k g (judgedCells k after []) Accepted)
+    movement-left : moveVerdict k g after (refuse 8 wrong) ≡ refuse 8 wrong (refuseUnsound k g (judgedCells k after []) Accepted)
     movement-left = gate-open (refuseSketch k g) (sketch-gate k g) _ (sym ev ∙ let-pass v ok asked a)
 
-    pub movement-wrong : wrong ≡ true → Refused 8 ≡ moveVerdict k g after wrong
+    pub movement-wrong : wrong ≡ true → Refused 8 ≡ moveVerdict k g after (refuse 8 wrong)
     movement-wrong h = sym (movement-left ∙ rw h refl)
 
     module _ (right : wrong ≡ false) (rises : Bool) (er : rises ≡ not (eqb (nOf after) (nOf (k .clock)))) where
-      pub movement-none : not rises ≡ true → v ≡ moveVerdict k g after wrong
+      pub movement-none : not rises ≡ true → v ≡ moveVerdict k g after (refuse 8 wrong)
       unfolding firstUnsound
       movement-none h = let-pass v ok asked a ∙ sym (movement-left ∙ rw right (cells-stay k g after rises er [] (not-true rises h)))
 
-      pub movement-all : not rises ≡ false → (u : Verdict) → u ≡ refuseUnsound k g (allCells k) Accepted → u ≡ moveVerdict k g after wrong
+      pub movement-all : not rises ≡ false → (u : Verdict) → u ≡ refuseUnsound k g (allCells k) Accepted → u ≡ moveVerdict k g after (refuse 8 wrong)
       movement-all h u e = e ∙ sym (movement-left ∙ rw right (cells-all k g after rises er [] (not-false rises h)))

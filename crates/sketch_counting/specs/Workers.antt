@@ -34,14 +34,6 @@ pub record SubWindows (k : MicroCm) (after : SubWindowClock) (old new n : ℕ) :
   pub grows : old ≤ new
   pub own : new ≡ old → n ≡ old
 
--- the verdict on an item, and on no item, for a sketch that takes this clock by the call: 8 if the clock is of the wrong kind
-abbrev pub itemVerdict : MicroCm → List ℕ → List ℕ → SubWindowClock → Bool → Verdict
-itemVerdict k key g clock wrong =
-    refuseSketch k g (refuseKey k key (refuse 8 wrong (refuseUnsound k g (judgedCells k clock (keyCells k 0 key)) Accepted)))
-
-abbrev pub moveVerdict : MicroCm → List ℕ → SubWindowClock → Bool → Verdict
-moveVerdict k g clock wrong = refuseSketch k g (refuse 8 wrong (refuseUnsound k g (judgedCells k clock []) Accepted))
-
 -- every cell of a sketch crosses, or stays as it is
 abbrev pub cross : MicroCm → Bool → ℕ → ℕ → List ℕ → ℕ → Step
 cross k moves old new g σ = crossIf moves (k .params .t) (k .params .c) (cellsOf k) old new g σ
@@ -61,7 +53,3 @@ itemCounted v k key old new n g = whenAccepted v (itemOf k key old new n g) (sti
 -- the grid that it leaves, with what it returned beside it
 abbrev pub countedOf : List ℕ → Counted → Step
 countedOf g r = record { bytes = g; state = r .state; draws = r .draws }
-
--- the sketch with another clock and another random state
-abbrev pub taking : MicroCm → SubWindowClock → ℕ → MicroCm
-taking k clock σ = record { rows = k .rows; cols = k .cols; params = k .params; clock = clock; rounding = record { state = σ } }

@@ -7,7 +7,8 @@ ghost use mathlib.Core.Path.{_≡_};
 ghost use mathlib.Core.Bool.{not};
 ghost use lib.Dec.{eqb};
 ghost use Rattle.clock.specs.Clock.{nOf};
-ghost use Rattle.sketch_counting.specs.Workers.{itemVerdict, moveVerdict};
+ghost use Rattle.refusal.specs.Refusals.{refuse};
+ghost use Rattle.sketch.specs.Refusals.{itemVerdict, moveVerdict};
 
 // An item for a sketch that takes the clock `after` by it; `wrong` if the call is for the other kind of clock.
 pub fn item(
@@ -19,7 +20,7 @@ pub fn item(
     wrong: bool,
 ) -> Verdict
     requires { ⌜ crosses ≡ not (eqb (nOf after) (nOf (sketch .clock))) ⌝ }
-    ensures { λ r. ⌜ r ≡ itemVerdict sketch (now (key .entry)) (now (grid .entry)) after wrong ⌝ }
+    ensures { λ r. ⌜ r ≡ itemVerdict sketch (now (key .entry)) (now (grid .entry)) after (refuse 8 wrong) ⌝ }
 {
     let keyed = sketch_judging::judge::keyed(sketch, &key[..], &grid[..]);
     if !keyed.accepted() {
@@ -43,7 +44,7 @@ pub fn movement(
     wrong: bool,
 ) -> Verdict
     requires { ⌜ crosses ≡ not (eqb (nOf after) (nOf (sketch .clock))) ⌝ }
-    ensures { λ r. ⌜ r ≡ moveVerdict sketch (now (grid .entry)) after wrong ⌝ }
+    ensures { λ r. ⌜ r ≡ moveVerdict sketch (now (grid .entry)) after (refuse 8 wrong) ⌝ }
 {
     let verdict = sketch_judging::judge::sketch(sketch, &grid[..]);
     if !verdict.accepted() {

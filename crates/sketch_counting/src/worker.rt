@@ -9,7 +9,10 @@ use sketch::Passed;
 ghost use mathlib.Core.Path.{_≡_};
 ghost use Prim.Native.Nat.{_*_, _≤_};
 ghost use Rattle.sketch.specs.Workers.{passOf};
-ghost use Rattle.sketch_counting.specs.Workers.{SoundIf, SubWindows, taking, crossIf, itemVerdict, itemCounted, countedOf};
+ghost use Rattle.sketch_counting.specs.Workers.{SoundIf, SubWindows, crossIf, itemCounted, countedOf};
+ghost use Rattle.refusal.specs.Refusals.{refuse};
+ghost use Rattle.sketch.specs.Refusals.{itemVerdict};
+ghost use Rattle.sketch.specs.Sketch.{taking};
 
 // What an item did. The sketch is not in it: whole, it would be copied on the way.
 pub struct Counted {
@@ -66,7 +69,7 @@ pub fn count(
     wrong: bool,
 ) -> Counted
     requires { ⌜ SubWindows sketch after old new n ⌝ }
-    ensures { λ r. ⌜ r .verdict ≡ itemVerdict sketch (now (key .entry)) (now (grid .entry)) after wrong ⌝ }
+    ensures { λ r. ⌜ r .verdict ≡ itemVerdict sketch (now (key .entry)) (now (grid .entry)) after (refuse 8 wrong) ⌝ }
     ensures { λ r. ⌜ countedOf (now (grid .exit)) r ≡ itemCounted (r .verdict) sketch (now (key .entry)) old new n (now (grid .entry)) ⌝ }
 {
     let rounding = sketch.rounding;

@@ -12,17 +12,17 @@ use Rattle.refusal.specs.declared.Verdict.the-variants.{Accepted}
 use Rattle.refusal.specs.Refusals.{isAccepted, refuse}
 use Rattle.refusal.proofs.VerdictLaws.{refused-leaves, turned-back, let-pass, not-refused}
 use Rattle.refusal.proofs.GateLaws.{both-accepted, gate-passed}
-use Rattle.clock.specs.Clock.{GoodLength, nOf, sameFrame}
+use Rattle.clock.specs.Clock.{nOf, sameFrame}
+use Rattle.clock.specs.Workers.{GoodLength}
 use Rattle.sketch.specs.declared.MicroCm.{MicroCm}
 use Rattle.sketch.specs.declared.Passed.{Passed}
 use Rattle.sketch.specs.Sketch.{World, cellsOf, allCells}
 use Rattle.sketch.specs.Merge.{mergeEach, merged}
-use Rattle.sketch.specs.Refusals.{refuseUnsound, sketchOutcome, world, sketchVerdict, lowerOf, sameShape, mergeVerdict, mergeCall}
+use Rattle.sketch.specs.Refusals.{refuseUnsound, sketchOutcome, world, sketchVerdict, lowerOf, sameShape, mergeVerdict, mergeCall, refusePair}
 use Rattle.sketch.specs.Workers.{Ready, Judged, SoundCells, passOf}
 use Rattle.sketch.proofs.JudgedLaws.{sound-cells}
 use Rattle.sketch.proofs.ReadyLaws.{ready-of}
 use Rattle.sketch.proofs.SketchGates.{unsound-gate}
-use Rattle.sketch_merging.specs.Workers.{refusePair}
 use Rattle.sketch_merging.proofs.VerdictCases.{lower-both, pair-gate}
 
 -- a test of four parts holds in each

@@ -11,14 +11,14 @@ use Rattle.refusal.specs.declared.Verdict.the-variants.{Accepted, Refused, Unso
 use Rattle.refusal.specs.Refusals.{numberOf, isAccepted, refuse, whenAccepted}
 use Rattle.refusal.proofs.VerdictLaws.{accepted-is, refused-leaves, turned-back, let-pass, refuse-then}
 use Rattle.refusal.proofs.GateLaws.{Gate, gate-chain, gate-open, gate-shut}
-use Rattle.clock.specs.Clock.{GoodLength, nOf, sameFrame}
+use Rattle.clock.specs.Clock.{nOf, sameFrame}
+use Rattle.clock.specs.Workers.{GoodLength}
 use Rattle.sketch.specs.declared.MicroCm.{MicroCm}
 use Rattle.sketch.specs.Sketch.{allCells}
-use Rattle.sketch.specs.Refusals.{refuseUnsound, sketchVerdict, lowerOf, sameShape, mergeVerdict}
+use Rattle.sketch.specs.Refusals.{refuseUnsound, sketchVerdict, lowerOf, sameShape, mergeVerdict, refusePair}
 use Rattle.sketch.specs.Workers.{Ready}
 use Rattle.sketch.proofs.SketchGates.{unsound-gate}
 use Rattle.sketch.proofs.ReadyLaws.{ready-of}
-use Rattle.sketch_merging.specs.Workers.{refusePair}
 
 -- THE LOWER NUMBER OF TWO
 module _ (first second : Verdict) (ok : Bool) (asked : ok ≡ isAccepted first) where

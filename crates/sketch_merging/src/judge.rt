@@ -3,9 +3,8 @@ use refusal::Verdict;
 use sketch::MicroCm;
 ghost use mathlib.Core.Path.{_≡_};
 ghost use Rattle.refusal.specs.declared.Verdict.the-variants.{Accepted};
-ghost use Rattle.clock.specs.Clock.{GoodLength};
-ghost use Rattle.sketch.specs.Refusals.{lowerOf, sameShape, mergeVerdict};
-ghost use Rattle.sketch_merging.specs.Workers.{refusePair};
+ghost use Rattle.clock.specs.Workers.{GoodLength};
+ghost use Rattle.sketch.specs.Refusals.{lowerOf, sameShape, mergeVerdict, refusePair};
 
 // Of two verdicts the one that turns the call back, and by the lower number if both do.
 fn lower(first: Verdict, second: Verdict) -> Verdict

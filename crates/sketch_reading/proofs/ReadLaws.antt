@@ -13,10 +13,11 @@ use Rattle.refusal.specs.declared.Verdict.the-variants.{Accepted, Refused}
 use Rattle.refusal.specs.Refusals.{isAccepted, refuse}
 use Rattle.refusal.proofs.VerdictLaws.{refused-leaves, turned-back, let-pass, not-refused}
 use Rattle.refusal.proofs.GateLaws.{gate-open, gate-shut, gate-passed}
-use Rattle.clock.specs.Clock.{GoodLength, nOf, fractionOf}
+use Rattle.clock.specs.Clock.{nOf, fractionOf}
+use Rattle.clock.specs.Workers.{GoodLength}
 use Rattle.sketch.specs.declared.MicroCm.{MicroCm}
 use Rattle.sketch.specs.declared.ReadingAnswer.{ReadingAnswer}
-use Rattle.sketch.specs.Figures.{underOf, overOf, hasOldest, readingOf}
+use Rattle.sketch.specs.Figures.{underOf, overOf, hasOldest, oneReading}
 use Rattle.sketch.specs.Refusals.{keyFits, refuseSketch, refuseKey, readVerdict, readWithVerdict, noReading, readingAnswer, readCall, readWithCall, meanCall}
 use Rattle.sketch.specs.Workers.{Ready, Readable}
 use Rattle.sketch.proofs.ReadyLaws.{keyed-ready}
@@ -92,7 +93,7 @@ module _ (k : MicroCm) (key g : List ℕ) (v : Verdict) (ok : Bool) (asked : ok 
     nothing-told : (r : ReadingAnswer) → r ≡ record { verdict = v; reading = noReading; over = 0; under = 0 } → not ok ≡ true → r ≡ readingAnswer v k g key fraction
     nothing-told r er h =
         let n = turned-back v ok asked h in
-        er ∙ rw (refused-leaves v (readingOf k g key fraction) noReading n, refused-leaves v (overOf k g key) 0 n, refused-leaves v (underOf k g key) 0 n) refl
+        er ∙ rw (refused-leaves v (oneReading k g key fraction) noReading n, refused-leaves v (overOf k g key) 0 n, refused-leaves v (underOf k g key) 0 n) refl
 
     all-told : (r : ReadingAnswer) (e : Estimated) → e ≡ estimateOf k g key fraction → r ≡ record { verdict = v; reading = e .reading; over = e .over; under = e .under } → not ok ≡ false
         → r ≡ readingAnswer v k g key fraction

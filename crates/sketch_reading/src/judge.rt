@@ -5,7 +5,7 @@ use sketch::MicroCm;
 ghost use mathlib.Core.Path.{_≡_};
 ghost use mathlib.Core.Bool.{not, _&&_};
 ghost use Rattle.laws.specs.Unit.{inUnit};
-ghost use Rattle.clock.specs.Clock.{GoodLength};
+ghost use Rattle.clock.specs.Workers.{GoodLength};
 ghost use Rattle.sketch.specs.Figures.{hasOldest};
 ghost use Rattle.sketch.specs.Refusals.{readVerdict, readWithVerdict};
 

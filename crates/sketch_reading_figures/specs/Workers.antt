@@ -6,7 +6,7 @@ use lib.Ieee.{Float, binary64, add, mul}
 use lib.ListN.{getD}
 use Rattle.laws.specs.Figure.{figure}
 use Rattle.sketch.specs.declared.MicroCm.{MicroCm}
-use Rattle.sketch.specs.Figures.{overOf, underOf, readingOf}
+use Rattle.sketch.specs.Figures.{overOf, underOf, oneReading}
 use Rattle.sketch.specs.Workers.{rowUnit}
 use Rattle.sketch_reading_figures.specs.declared.Exact.{Exact}
 use Rattle.sketch_reading_figures.specs.declared.Estimated.{Estimated}
@@ -21,7 +21,7 @@ exactly n = record { whole = n; value = figure n }
 
 -- all figures of a key
 abbrev pub estimateOf : MicroCm → List ℕ → List ℕ → Float → Estimated
-estimateOf k g key fraction = record { reading = readingOf k g key fraction; over = overOf k g key; under = underOf k g key }
+estimateOf k g key fraction = record { reading = oneReading k g key fraction; over = overOf k g key; under = underOf k g key }
 
 -- below n = t the three figures are one
 abbrev pub youngEstimate : Exact → Float → Estimated

@@ -1,9 +1,7 @@
-// What a fresh start is made of: its verdict, the grid of zeros, and what is handed back in place of a sketch.
+// What a fresh start is made of: its verdict, and the grid of zeros.
 use cell::MicroParams;
 use clock::SubWindowClock;
 use refusal::Verdict;
-use rounding::Rounding;
-use sketch::MicroCm;
 use sketch_judging::judge;
 ghost use mathlib.Core.Path.{_≡_};
 ghost use mathlib.Core.Bool.{not};
@@ -13,7 +11,7 @@ ghost use lib.ListN.{length, replicate};
 ghost use Rattle.refusal.specs.declared.Verdict.the-variants.{Accepted};
 ghost use Rattle.refusal.specs.Refusals.{refuse};
 ghost use Rattle.cell.specs.Cell.{depthOf};
-ghost use Rattle.sketch.specs.Refusals.{refuseSettings, noSketch};
+ghost use Rattle.sketch.specs.Refusals.{refuseSettings};
 
 // 1 to 4, then 6 for a grid of so many bytes. No seed gives the random state 0, so 5 can't arise.
 pub fn judge(
@@ -42,21 +40,5 @@ pub fn zero_all(grid: &mut [u8])
     while i < grid.len() {
         grid[i] = 0;
         i += 1;
-    }
-}
-
-// No sketch: every call refuses this one.
-pub fn no_sketch() -> MicroCm
-    ensures { λ r. ⌜ r ≡ noSketch ⌝ }
-{
-    MicroCm {
-        rows: 0,
-        cols: 0,
-        params: MicroParams { t: 0, c: 0 },
-        clock: SubWindowClock::CountBased {
-            items_per_sub_window: 0,
-            seen: 0,
-        },
-        rounding: Rounding { state: 0 },
     }
 }

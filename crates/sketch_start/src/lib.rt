@@ -6,6 +6,7 @@ use clock::SubWindowClock;
 use rounding::Rounding;
 use sketch::MicroCm;
 use sketch::SketchAnswer;
+use sketch_judging::answer;
 ghost use mathlib.Core.Path.{_≡_};
 ghost use Rattle.sketch.specs.Refusals.{sketchOutcome, freshCall};
 
@@ -23,22 +24,17 @@ pub fn with_dimensions(
 {
     let verdict = fresh::judge(rows, cols, params, clock, grid.len());
     if !verdict.accepted() {
-        return SketchAnswer {
-            verdict,
-            sketch: fresh::no_sketch(),
-            draws: 0,
-        };
+        return answer::undrawn(verdict, answer::no_sketch());
     }
     fresh::zero_all(grid);
-    SketchAnswer {
+    answer::undrawn(
         verdict,
-        sketch: MicroCm {
+        MicroCm {
             rows,
             cols,
             params,
             clock: clock::worker::started(clock),
             rounding: Rounding::new(seed),
         },
-        draws: 0,
-    }
+    )
 }

@@ -12,16 +12,16 @@ use Rattle.laws.proofs.PartLaws.{part-length}
 use Rattle.refusal.specs.declared.Verdict.{Verdict}
 use Rattle.refusal.specs.declared.Verdict.the-variants.{Accepted}
 use Rattle.refusal.specs.declared.Verdict.the-variants as verdict
-use Rattle.refusal.specs.Refusals.{isAccepted, whenAccepted}
+use Rattle.refusal.specs.Refusals.{isAccepted, andThen}
 use Rattle.refusal.proofs.VerdictLaws.{refused-leaves, turned-back, let-pass, not-refused}
 use Rattle.sketch.specs.declared.MicroCm.{MicroCm}
-use Rattle.sketch.specs.Refusals.{noSketch}
-use Rattle.store.specs.declared.LoadAnswer.{LoadAnswer}
+use Rattle.sketch.specs.Refusals.{noSketch, sketchOutcome, undrawn, world}
+use Rattle.sketch.specs.declared.SketchAnswer.{SketchAnswer}
 use Rattle.store_header.specs.declared.Header.{Header}
 use Rattle.store_header.specs.declared.Header.the-variants.{Sketch, Refused}
 use Rattle.store_blocks.specs.Blocks.{carried}
 use Rattle.store_header.specs.Refusals.{lengthVerdict, wrongForm, headerVerdict, headerIn, headerNumber}
-use Rattle.store.specs.Refusals.{refuseBlocks, headerPayload, gridVerdict, loadVerdict, loadAnswer, loadOutcome, loadCall}
+use Rattle.store.specs.Refusals.{refuseBlocks, headerPayload, gridVerdict, loadVerdict, loadCall}
 use Rattle.store_blocks.proofs.FillLaws.{part-take}
 use Rattle.store_header.proofs.HeaderLaws.{neither}
 use Rattle.store_header.proofs.AnswerLaws.{header-refused, sketch-said}
@@ -31,17 +31,16 @@ use Rattle.store.proofs.LoadLaws.{sketchOf, gridOf, Kept, grid-kept, Lo
 
 -- LOAD
 module _ (g store : List ℕ) where
-  unloaded : (a : LoadAnswer) (v : Verdict) → isAccepted v ≡ false → loadVerdict g store ≡ v → a ≡ loadAnswer v noSketch → loadOutcome a g ≡ loadCall g store
+  unloaded : (a : SketchAnswer) (v : Verdict) → isAccepted v ≡ false → loadVerdict g store ≡ v → a ≡ undrawn v noSketch → sketchOutcome a g ≡ loadCall g store
   unfolding loadCall
   unloaded a v n e ea =
-      rw (e, ea)
-      (ap₂ (λ k l. loadOutcome (loadAnswer v k) l) (sym (refused-leaves v (sketchOf store) noSketch n)) (sym (refused-leaves v (gridOf store) g n)))
+      rw (e, ea, refused-leaves v (world (sketchOf store) (gridOf store)) (world noSketch g) n)
 
   abbrev left : Verdict
-  left = whenAccepted (headerVerdict (headerPayload store)) (gridVerdict (sketchOf store) g store) (headerVerdict (headerPayload store))
+  left = andThen (headerVerdict (headerPayload store)) (gridVerdict (sketchOf store) g store)
 
   module _ (b : Verdict) (sound : Bool) (eb : b ≡ refuseBlocks store Accepted) (told : sound ≡ isAccepted b) where
-    pub load-damaged : (a : LoadAnswer) → not sound ≡ true → a ≡ loadAnswer b noSketch → loadOutcome a g ≡ loadCall g store
+    pub load-damaged : (a : SketchAnswer) → not sound ≡ true → a ≡ undrawn b noSketch → sketchOutcome a g ≡ loadCall g store
     load-damaged a n = unloaded a b (turned-back b sound told n) (gate-shut (refuseBlocks store) (blocks-gate store) left b eb (turned-back b sound told n))
 
     -- what is not cut has a first block
@@ -62,7 +61,7 @@ module _ (g store : List ℕ) where
       answered : headerIn (headerPayload store) ≡ h
       answered = ap headerIn (part-take 4 504 512 store (omega arith)) ∙ sym eh
 
-      pub load-header : (a : LoadAnswer) (n i : ℕ) → h ≡ Refused n → i ≡ headerNumber h → a ≡ loadAnswer (verdict.Refused i) noSketch → loadOutcome a g ≡ loadCall g store
+      pub load-header : (a : SketchAnswer) (n i : ℕ) → h ≡ Refused n → i ≡ headerNumber h → a ≡ undrawn (verdict.Refused i) noSketch → sketchOutcome a g ≡ loadCall g store
       load-header a n i en ei =
           let e : i ≡ n = ei ∙ ap headerNumber en in
           unloaded a (verdict.Refused i) refl (past-blocks ∙ rw (header-refused (headerPayload store) n (answered ∙ en)) (ap verdict.Refused (sym e)))
@@ -81,14 +80,15 @@ module _ (g store : List ℕ) where
           grid-left : loadVerdict g store ≡ v
           grid-left = past-blocks ∙ rw (accepts, ← sketch-is) (sym ev)
 
-          pub load-refused : (a : LoadAnswer) → not ok ≡ true → a ≡ loadAnswer v noSketch → loadOutcome a g ≡ loadCall g store
+          pub load-refused : (a : SketchAnswer) → not ok ≡ true → a ≡ undrawn v noSketch → sketchOutcome a g ≡ loadCall g store
           load-refused a n = unloaded a v (turned-back v ok asked n) grid-left
 
-          pub load-done : not ok ≡ false → (y : List ℕ) → y ≡ part 0 (length g) (carried store) → loadOutcome (loadAnswer v k) y ≡ loadCall g store
+          pub load-done : not ok ≡ false → (y : List ℕ) → y ≡ part 0 (length g) (carried store) → (a : SketchAnswer) → a ≡ undrawn v k
+              → sketchOutcome a y ≡ loadCall g store
           unfolding loadCall
-          load-done n y ey =
+          load-done n y ey a ea =
               let able : Loadable g store = accepted-loadable g store (grid-left ∙ let-pass v ok asked n) in
-              rw (grid-left, let-pass v ok asked n, ← sketch-is, ey, able .kept .room, ← sketch-is)
+              rw (ea, grid-left, let-pass v ok asked n, ← sketch-is, ey, able .kept .room, ← sketch-is)
 
 -- what was judged of the lent grid is room for the stored one
 pub load-room : (k : MicroCm) (g store : List ℕ) (v : Verdict) (ok : Bool) → v ≡ gridVerdict k g store → ok ≡ isAccepted v → not ok ≡ false

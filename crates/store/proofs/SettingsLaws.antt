@@ -10,7 +10,8 @@ use Rattle.cell.specs.Cell.{depthOf}
 use Rattle.sketch.specs.declared.MicroCm.{MicroCm}
 use Rattle.sketch.specs.Sketch.{cellsOf, gridBytes}
 use Rattle.sketch.proofs.SettingsLaws.{GoodSettings, good-settings}
-use Rattle.store_header.specs.Header.{epochOf, readingOf}
+use Rattle.store_header.specs.Header.{epochOf}
+use Rattle.clock.specs.Clock.{readingOf}
 use Rattle.store_header.specs.Refusals.{lengthVerdict}
 use Rattle.store.specs.Store.{gridBlocks}
 use Rattle.store_header.proofs.HeaderLaws.{Fits}

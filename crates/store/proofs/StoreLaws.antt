@@ -7,10 +7,10 @@ use lib.ListN.{length, take, drop, length-append}
 use native.Mathlib.Omega.{arith}
 use Rattle.laws.specs.Bytes.{bytesOf}
 use Rattle.laws.proofs.ByteLaws.{bytes-small}
-use Rattle.clock.specs.Clock.{lengthOf}
+use Rattle.clock.specs.Clock.{lengthOf, readingOf}
 use Rattle.sketch.specs.declared.MicroCm.{MicroCm}
 use Rattle.store_blocks.specs.Blocks.{filled, blockOf, blocksFrom, blocksPass, carried}
-use Rattle.store_header.specs.Header.{headerOf, kindOf, epochOf, readingOf}
+use Rattle.store_header.specs.Header.{headerOf, kindOf, epochOf}
 use Rattle.store.specs.Store.{gridBlocks, storeLength, storeOf}
 use Rattle.store.specs.Refusals.{headerPayload}
 use Rattle.store_blocks.proofs.FillLaws.{Small, small-append}

@@ -14,12 +14,12 @@ use Rattle.refusal.specs.declared.Verdict.the-variants.{Accepted, Refused}
 use Rattle.refusal.proofs.VerdictLaws.{not-refused}
 use Rattle.sketch.specs.declared.MicroCm.{MicroCm}
 use Rattle.sketch.specs.Sketch.{gridBytes, allCells}
-use Rattle.sketch.specs.Refusals.{refuseSketch, refuseUnsound, noSketch}
+use Rattle.sketch.specs.Refusals.{refuseSketch, refuseUnsound, noSketch, sketchOutcome, undrawn}
 use Rattle.store_blocks.specs.Blocks.{filled, blockOf, blocksFrom, blockPasses, blocksPass, payloadsOf, carried}
 use Rattle.store_header.specs.Header.{headerOf}
 use Rattle.store_header.specs.Refusals.{lengthVerdict}
 use Rattle.store.specs.Store.{storeOf, gridBlocks}
-use Rattle.store.specs.Refusals.{headerPayload, refuseLength, loadVerdict, loadAnswer, loadOutcome, loadCall, saveVerdict, saveOutcome, saveCall}
+use Rattle.store.specs.Refusals.{headerPayload, refuseLength, loadVerdict, loadCall, saveVerdict, saveOutcome, saveCall}
 use Rattle.store_blocks.proofs.FillLaws.{Small, small-take, small-drop, filled-full, behind-zero, cut-alike}
 use Rattle.store_blocks.proofs.BlockLaws.{block-same, block-back}
 use Rattle.store_blocks.proofs.ChainLaws.{pass-suc, blocks-changed, blocks-back, from-alike}
@@ -74,7 +74,7 @@ module _ (k : MicroCm) (g g' store : List ℕ) (range : Ranged k) (small : Small
     };
   }
 
-  pub save-load : loadCall g' (saveCall k g store .store) ≡ loadOutcome (loadAnswer Accepted k) g
+  pub save-load : loadCall g' (saveCall k g store .store) ≡ sketchOutcome (undrawn Accepted k) g
   unfolding loadCall saveCall
   save-load = rw (saved, loadable-accepted g' (storeOf k g) loadable, sketch-back, grid-taken)
 
@@ -98,7 +98,7 @@ module _ (g store : List ℕ) (loaded : loadVerdict g store ≡ Accepted) where
   grid-long =
       length-take-le (gridBytes (sketchOf store)) (carried store) (omega (arith, carried-length store, count-is))
 
-  pub load-call : loadCall g store ≡ loadOutcome (loadAnswer Accepted (sketchOf store)) (gridOf store)
+  pub load-call : loadCall g store ≡ sketchOutcome (undrawn Accepted (sketchOf store)) (gridOf store)
   unfolding loadCall
   load-call = rw loaded
 
@@ -148,7 +148,7 @@ module _ (g store : List ℕ) (loaded : loadVerdict g store ≡ Accepted) where
         rw (v, store-same)
 
   -- ANY ONE CHANGED BYTE is refused by 17
-  pub load-changed : (g' : List ℕ) (k v : ℕ) → k < length store → (v ≡ getD store k 0 → ⊥) → loadCall g' (set store k v) ≡ loadOutcome (loadAnswer (Refused 17) noSketch) g'
+  pub load-changed : (g' : List ℕ) (k v : ℕ) → k < length store → (v ≡ getD store k 0 → ⊥) → loadCall g' (set store k v) ≡ sketchOutcome (undrawn (Refused 17) noSketch) g'
   unfolding loadCall
   load-changed g' k v h ne =
       let whole : length store ≡ 512 * (length store / 512) = omega (arith, able-to .kept .exact) in

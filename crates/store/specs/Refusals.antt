@@ -6,13 +6,12 @@ use lib.Dec.{eqb}
 use lib.ListN.{length, take, drop}
 use Rattle.refusal.specs.declared.Verdict.{Verdict}
 use Rattle.refusal.specs.declared.Verdict.the-variants as verdict
-use Rattle.refusal.specs.Refusals.{whenAccepted}
+use Rattle.refusal.specs.Refusals.{whenAccepted, andThen}
 use Rattle.refusal.specs.Causes.{Cause, cause, refuseBy}
 use Rattle.sketch.specs.declared.MicroCm.{MicroCm}
 use Rattle.sketch.specs.Sketch.{gridBytes, allCells}
-use Rattle.sketch.specs.Refusals.{refuseGrid, refuseSketch, refuseUnsound, noSketch}
+use Rattle.sketch.specs.Refusals.{refuseGrid, refuseSketch, refuseUnsound, SketchOutcome, sketchCall, world, noSketch}
 use Rattle.store.specs.declared.LengthAnswer.{LengthAnswer}
-use Rattle.store.specs.declared.LoadAnswer.{LoadAnswer}
 use Rattle.store_blocks.specs.Blocks.{blockBytes, blocksPass, payloadOf, allZero, carried}
 use Rattle.store_header.specs.Header.{sketchIn}
 use Rattle.store_header.specs.Refusals.{lengthVerdict, headerVerdict}
@@ -77,22 +76,9 @@ refuseBlocks store rest = refuseBy (noBlocks store) (refuseBy (badBlock store) r
 -- the blocks, then the header's answer, then what it leaves
 abbrev pub loadVerdict : List ℕ → List ℕ → Verdict
 loadVerdict g store =
-    refuseBlocks store
-    (whenAccepted (headerVerdict (headerPayload store)) (gridVerdict (sketchIn (headerPayload store)) g store) (headerVerdict (headerPayload store)))
+    refuseBlocks store (andThen (headerVerdict (headerPayload store)) (gridVerdict (sketchIn (headerPayload store)) g store))
 
--- the sketch, if the load is accepted
-abbrev pub loadAnswer : Verdict → MicroCm → LoadAnswer
-loadAnswer v k = record { verdict = v; sketch = k }
-
-pub record LoadOutcome : Type 0 where
-  pub answer : LoadAnswer
-  pub grid : List ℕ
-
-abbrev pub loadOutcome : LoadAnswer → List ℕ → LoadOutcome
-loadOutcome r g = record { answer = r; grid = g }
-
-unfoldable pub loadCall : List ℕ → List ℕ → LoadOutcome
+unfoldable pub loadCall : List ℕ → List ℕ → SketchOutcome
 loadCall g store =
-    let v = loadVerdict g store in
     let k = sketchIn (headerPayload store) in
-    loadOutcome (loadAnswer v (whenAccepted v k noSketch)) (whenAccepted v (gridIn k store) g)
+    sketchCall (loadVerdict g store) (world k (gridIn k store)) (world noSketch g)

@@ -3,32 +3,25 @@
 // A store is what is written before the key is turned off: block 0 holds the sketch, the blocks behind it the grid.
 mod judge;
 
-use cell::MicroParams;
-use clock::SubWindowClock;
 use refusal::Verdict;
-use rounding::Rounding;
 use sketch::MicroCm;
+use sketch::SketchAnswer;
+use sketch_judging::answer;
 use store_blocks::block;
 use store_blocks::chain;
 use store_header::Header;
 use store_header::fields;
 ghost use mathlib.Core.Path.{_≡_};
 ghost use lib.ListN.{length};
-ghost use Rattle.sketch.specs.Refusals.{noSketch};
+ghost use Rattle.sketch.specs.Refusals.{sketchOutcome, undrawn, noSketch};
 ghost use Rattle.sketch.specs.Sketch.{gridBytes};
 ghost use Rattle.store.specs.Store.{storeLength, storeOf};
-ghost use Rattle.store.specs.Refusals.{lengthCall, saveOutcome, saveCall, loadAnswer, loadOutcome, loadCall};
+ghost use Rattle.store.specs.Refusals.{lengthCall, saveOutcome, saveCall, loadCall};
 
 // The exact length of a sketch's store; 0 if refused.
 pub struct LengthAnswer {
     pub verdict: Verdict,
     pub length: usize,
-}
-
-// The sketch that was loaded; one that every call refuses if the load is refused.
-pub struct LoadAnswer {
-    pub verdict: Verdict,
-    pub sketch: MicroCm,
 }
 
 // How many bytes to lend for a save.
@@ -74,30 +67,19 @@ pub fn save(store: &mut [u8], sketch: MicroCm, grid: &[u8]) -> Verdict
     Verdict::Accepted
 }
 
-fn turned_back(verdict: Verdict) -> LoadAnswer
-    ensures { λ r. ⌜ r ≡ loadAnswer verdict noSketch ⌝ }
+// A refused load gives in place of a sketch one that every call refuses.
+fn turned_back(verdict: Verdict) -> SketchAnswer
+    ensures { λ r. ⌜ r ≡ undrawn verdict noSketch ⌝ }
 {
-    LoadAnswer {
-        verdict,
-        sketch: MicroCm {
-            rows: 0,
-            cols: 0,
-            params: MicroParams { t: 0, c: 0 },
-            clock: SubWindowClock::CountBased {
-                items_per_sub_window: 0,
-                seen: 0,
-            },
-            rounding: Rounding { state: 0 },
-        },
-    }
+    answer::undrawn(verdict, answer::no_sketch())
 }
 
 // The grid of a store into the lent one, and the sketch that goes with it. Every byte is judged before the first is written,
 // so a refused load loses nothing. To the one who holds the file 16 says that it was cut or is too long, 17 that a block is
 // damaged or out of its place, 18 that it is of another form, 1 to 5 and 14 that no sketch of ours wrote it, and 6 that the
 // lent grid has another size than the stored one.
-pub fn load(grid: &mut [u8], store: &[u8]) -> LoadAnswer
-    ensures { λ r. ⌜ loadOutcome r (now (grid .exit)) ≡ loadCall (now (grid .entry)) (now (store .entry)) ⌝ }
+pub fn load(grid: &mut [u8], store: &[u8]) -> SketchAnswer
+    ensures { λ r. ⌜ sketchOutcome r (now (grid .exit)) ≡ loadCall (now (grid .entry)) (now (store .entry)) ⌝ }
 {
     let whole = judge::whole(store);
     if !whole.accepted() {
@@ -112,5 +94,5 @@ pub fn load(grid: &mut [u8], store: &[u8]) -> LoadAnswer
         return turned_back(verdict);
     }
     chain::copy_out(grid, store, 0);
-    LoadAnswer { verdict, sketch }
+    answer::undrawn(verdict, sketch)
 }

@@ -15,10 +15,10 @@ use Rattle.laws.proofs.ByteLaws.{bytes-length}
 use Rattle.laws.proofs.PartLaws.{part-length, splice-taken}
 use Rattle.clock.specs.declared.SubWindowClock.{SubWindowClock}
 use Rattle.clock.specs.declared.SubWindowClock.the-variants.{CountBased, TimeBased}
-use Rattle.clock.specs.Clock.{lengthOf}
+use Rattle.clock.specs.Clock.{lengthOf, readingOf}
 use Rattle.sketch.specs.declared.MicroCm.{MicroCm}
 use Rattle.store_blocks.specs.Blocks.{allZero}
-use Rattle.store_header.specs.Header.{kindOf, epochOf, readingOf, headerOf, fieldOf, clockIn, sketchIn}
+use Rattle.store_header.specs.Header.{kindOf, epochOf, headerOf, fieldOf, clockIn, sketchIn}
 use Rattle.store_header.specs.Refusals.{wrongForm}
 use Rattle.store_header.specs.Workers.{Put}
 

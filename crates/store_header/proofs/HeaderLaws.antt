@@ -14,10 +14,10 @@ use Rattle.laws.proofs.ByteLaws.{number-bytes-small, bytes-number}
 use Rattle.laws.proofs.PartLaws.{part-length}
 use Rattle.clock.specs.declared.SubWindowClock.{SubWindowClock}
 use Rattle.clock.specs.declared.SubWindowClock.the-variants.{CountBased, TimeBased}
-use Rattle.clock.specs.Clock.{lengthOf}
+use Rattle.clock.specs.Clock.{lengthOf, readingOf}
 use Rattle.sketch.specs.declared.MicroCm.{MicroCm}
 use Rattle.store_blocks.specs.Blocks.{filled, allZero}
-use Rattle.store_header.specs.Header.{kindOf, epochOf, readingOf, headerOf, fieldOf, clockIn, sketchIn}
+use Rattle.store_header.specs.Header.{kindOf, epochOf, headerOf, fieldOf, clockIn, sketchIn}
 use Rattle.store_header.specs.Refusals.{wrongForm}
 use Rattle.store_blocks.proofs.FillLaws.{Small, small-take, small-drop, filled-is, cut-alike}
 

@@ -7,7 +7,7 @@ use Rattle.laws.specs.Bytes.{numberOf, bytesOf}
 use Rattle.laws.specs.Parts.{part}
 use Rattle.clock.specs.declared.SubWindowClock.{SubWindowClock}
 use Rattle.clock.specs.declared.SubWindowClock.the-variants.{CountBased, TimeBased}
-use Rattle.clock.specs.Clock.{lengthOf}
+use Rattle.clock.specs.Clock.{lengthOf, readingOf}
 use Rattle.sketch.specs.declared.MicroCm.{MicroCm}
 
 -- WRITTEN: u32 at 0, 4, 8, 12, 16, 20; u64 at 24, 32, 40, 48; the rest 0
@@ -18,11 +18,6 @@ kindOf (TimeBased length epoch now) = 1
 abbrev pub epochOf : SubWindowClock → ℕ
 epochOf (CountBased length seen) = 0
 epochOf (TimeBased length epoch now) = epoch
-
--- seen or now
-abbrev pub readingOf : SubWindowClock → ℕ
-readingOf (CountBased length seen) = seen
-readingOf (TimeBased length epoch now) = now
 
 unfoldable pub headerOf : MicroCm → List ℕ
 headerOf k =

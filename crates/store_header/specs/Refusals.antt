@@ -30,9 +30,7 @@ badForm p = cause 18 (wrongForm p)
 
 -- the header's answer: 18, then 1 to 5
 abbrev pub headerVerdict : List ℕ → Verdict
-headerVerdict p =
-    let k = sketchIn p in
-    refuseBy (badForm p) (refuseSettings (k .rows) (k .cols) (k .params) (k .clock) (refuseState (k .rounding .state) verdict.Accepted))
+headerVerdict p = refuseBy (badForm p) (lengthVerdict (sketchIn p))
 
 unfoldable pub headerIn : List ℕ → Header
 headerIn p = whenAccepted (headerVerdict p) (Sketch (sketchIn p)) (Refused (numberOf (headerVerdict p)))

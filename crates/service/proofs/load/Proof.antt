@@ -1,5 +1,5 @@
 -- `load`: the load of the sketch, and no codes. Assumes nothing.
-use Rattle.service.proofs.ServiceLaws.{load-served}
+use Rattle.service.proofs.ServiceLaws.{start-served}
 use borrow.Author.Needs.{needs}
 use Rattle.service.proofs.load.Statement.{statement}
 use Rattle.service.proofs.load.Tie as tie
@@ -14,7 +14,7 @@ same-length : tie.Need-same-length
 same-length c = search needs
 
 returns : tie.Need-returns
-returns c = search (load-served, needs)
+returns c = search (start-served, needs)
 
 pub load-spec : {M : Type 1} → statement M
 load-spec = tie.close (tie.spec load-requires without-codes-requires same-length returns)

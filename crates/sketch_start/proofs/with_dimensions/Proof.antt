@@ -13,6 +13,9 @@ accepted-requires c κs = search needs
 no-sketch-requires : tie.Need-no-sketch-requires
 no-sketch-requires c κs = search needs
 
+undrawn-requires : tie.Need-undrawn-requires
+undrawn-requires c κs = search needs
+
 returns : tie.Need-returns
 returns c = search (fresh-refused, needs)
 
@@ -24,6 +27,9 @@ started-requires c κs = search needs
 
 new-requires : tie.Need-new-requires
 new-requires c κs = search needs
+
+undrawn-requires-2 : tie.Need-undrawn-requires-2
+undrawn-requires-2 c κs = search needs
 
 same-length : tie.Need-same-length
 same-length c = search needs
@@ -38,9 +44,11 @@ with-dimensions-spec =
     judge-requires
     accepted-requires
     no-sketch-requires
+    undrawn-requires
     returns
     zero-all-requires
     started-requires
     new-requires
+    undrawn-requires-2
     same-length
     returns-2)

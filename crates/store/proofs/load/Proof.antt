@@ -61,18 +61,21 @@ returns-3 c = search (load-refused, needs)
 copy-out-requires : tie.Need-copy-out-requires
 copy-out-requires c κs = search (load-room, needs)
 
+undrawn-requires : tie.Need-undrawn-requires
+undrawn-requires c κs = search needs
+
 same-length-2 : tie.Need-same-length-2
 same-length-2 c = search needs
 
 returns-4 : tie.Need-returns-4
 returns-4 c =
-    let copied = c .before .before in
+    let copied = c .before .before .before in
     let judged = copied .before .before in
     let behind = judged .before .before in
     let opened = behind .before .before .before in
     let answered = opened .before .before in
     let blocks = answered .before .before in
-    load-done _ _ _ _ (blocks .before .before .whole .ensures) (blocks .before .accepted .ensures) (blocks .if1 .left) _ (answered .header-in .ensures) _ (opened .header .given .1) _ _ (behind .behind-header .ensures) (judged .before .accepted2 .ensures) (judged .if2 .left) _ (copied .copy-out .ensures)
+    load-done _ _ _ _ (blocks .before .before .whole .ensures) (blocks .before .accepted .ensures) (blocks .if1 .left) _ (answered .header-in .ensures) _ (opened .header .given .1) _ _ (behind .behind-header .ensures) (judged .before .accepted2 .ensures) (judged .if2 .left) _ (copied .copy-out .ensures) _ (c .undrawn .ensures)
 
 pub load-spec : {M : Type 1} → statement M
 load-spec =
@@ -97,5 +100,6 @@ load-spec =
     same-length
     returns-3
     copy-out-requires
+    undrawn-requires
     same-length-2
     returns-4)

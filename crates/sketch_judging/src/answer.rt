@@ -1,0 +1,36 @@
+// The answers of the calls that may change a sketch.
+use cell::MicroParams;
+use clock::SubWindowClock;
+use refusal::Verdict;
+use rounding::Rounding;
+use sketch::MicroCm;
+use sketch::SketchAnswer;
+ghost use mathlib.Core.Path.{_≡_};
+ghost use Rattle.sketch.specs.Refusals.{undrawn, noSketch};
+
+// No sketch: every call refuses this one.
+pub fn no_sketch() -> MicroCm
+    ensures { λ r. ⌜ r ≡ noSketch ⌝ }
+{
+    MicroCm {
+        rows: 0,
+        cols: 0,
+        params: MicroParams { t: 0, c: 0 },
+        clock: SubWindowClock::CountBased {
+            items_per_sub_window: 0,
+            seen: 0,
+        },
+        rounding: Rounding { state: 0 },
+    }
+}
+
+// The answer of a call that drew nothing.
+pub fn undrawn(verdict: Verdict, sketch: MicroCm) -> SketchAnswer
+    ensures { λ r. ⌜ r ≡ undrawn verdict sketch ⌝ }
+{
+    SketchAnswer {
+        verdict,
+        sketch,
+        draws: 0,
+    }
+}
