@@ -78,7 +78,7 @@ pub fn enter_held(
     if !verdict.accepted() {
         return answer::turned_back(verdict, rounding);
     }
-    let drawn = cell_crossing_steps::enter_judged(
+    let drawn = cell_crossing_steps::worker::enter_judged(
         cell,
         params.t,
         params.c,

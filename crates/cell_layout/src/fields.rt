@@ -3,7 +3,7 @@ use cell::MicroLayout;
 use cell::MicroParams;
 ghost use mathlib.Core.Path.{_≡_};
 ghost use Prim.Native.Nat.{_+_, _<_, _≤_};
-ghost use lib.ListN.{length};
+ghost use lib.ListN.{length, replicate};
 ghost use Rattle.cell.specs.Cell.{pixelsOf, depthOf, slotOf, zoomOf, shutterOf, withZoom, withShutter};
 ghost use Rattle.cell.specs.Refusals.{layoutOf};
 
@@ -90,4 +90,15 @@ pub fn set_shutter(cell: &mut [u8], t: usize, shutter: u32)
     cell[at + 1] = (shutter / 256 % 256) as u8;
     cell[at + 2] = (shutter / 65536 % 256) as u8;
     cell[at + 3] = (shutter / 16777216 % 256) as u8;
+}
+
+// Every byte becomes 0: a fresh grid, the pixels after a far jump.
+pub fn zero_all(bytes: &mut [u8])
+    ensures { λ _. ⌜ now (bytes .exit) ≡ replicate (length (now (bytes .entry))) 0 ⌝ }
+{
+    let mut i: usize = 0;
+    while i < bytes.len() {
+        bytes[i] = 0;
+        i += 1;
+    }
 }

@@ -6,7 +6,7 @@ use lib.ListN.{length, take, drop, length-take}
 use native.Mathlib.Nat.{mod-eq-of-lt, mod-eq-sub-mod, div-eq-of-lt, div-eq-of-lt-le, div-lt-iff-lt-mul}
 use native.Mathlib.Omega.{arith}
 use Rattle.cell_merging.specs.declared.merge.Carry.{Carry}
-use Rattle.cell_merging_sums.specs.declared.Summed.{Summed}
+use Rattle.cell_merging_sums.specs.declared.worker.Summed.{Summed}
 use Rattle.cell.specs.Cell.{pixelsOf, depthOf, slotOf, zoomOf, shutterOf, withPixels, withZoom, withShutter}
 use Rattle.cell.specs.Merge.{mergedWith, mergeOf, sumsOf}
 use Rattle.cell_merging_sums.specs.Workers.{settledOf}

@@ -113,7 +113,7 @@ fn merge_by(
 {
     let target = larger_zoom(&dst[..], &src[..], t);
     let carry = carry_of(&dst[..], &src[..], t, c, target);
-    let summed = cell_merging_sums::sum_up(
+    let summed = cell_merging_sums::worker::sum_up(
         sums,
         &dst[..],
         &src[..],

@@ -9,7 +9,7 @@ use native.Mathlib.Omega.{arith}
 use borrow.Author.Tests.{not-true, not-false}
 use Rattle.laws.specs.Steps.{Step}
 use Rattle.cell.specs.declared.Drawn.{Drawn}
-use Rattle.cell_merging_sums.specs.declared.Summed.{Summed}
+use Rattle.cell_merging_sums.specs.declared.worker.Summed.{Summed}
 use Rattle.cell.specs.Cell.{pixelsOf, pixelsIn, zoomOf, maxZoom}
 use Rattle.cell.specs.Insertion.{divideEach}
 use Rattle.cell.specs.Crossing.{allAtMost}

@@ -1,7 +1,7 @@
 -- What the sums of a merge are. No public contract cites this file.
 use Prim.Native.Nat.{ℕ, _+_}
 use mathlib.Core.List.{List, [], _∷_}
-use Rattle.cell_merging_sums.specs.declared.Summed.{Summed}
+use Rattle.cell_merging_sums.specs.declared.worker.Summed.{Summed}
 use Rattle.cell.specs.Merge.{Settled}
 
 -- pixel by pixel, of cells that lack no level

@@ -16,7 +16,7 @@ use Rattle.sketch.specs.declared.MicroCm.{MicroCm}
 use Rattle.sketch.specs.Figures.{overOf}
 use Rattle.sketch.specs.Workers.{Readable}
 use Rattle.sketch.proofs.AddressLaws.{product-le}
-use Rattle.sketch_reading_figures.specs.declared.Estimated.{Estimated}
+use Rattle.sketch_reading_figures.specs.declared.worker.Estimated.{Estimated}
 use Rattle.sketch_reading_figures.specs.Workers.{estimateOf}
 use Rattle.codes.specs.Codes.{codeIn, reachedAt, newly, flagAt, flagsOf}
 use Rattle.codes.proofs.FlagLaws.{flags-below}

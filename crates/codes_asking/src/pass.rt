@@ -22,7 +22,7 @@ fn code_over(sketch: MicroCm, columns: &[u32], code: usize, grid: &[u8]) -> u64
     let rows = sketch.rows;
     let start = code * rows;
     let end = start + rows;
-    let figures = sketch_reading_figures::estimate(sketch, grid, &columns[start..end], 0.0);
+    let figures = sketch_reading_figures::worker::estimate(sketch, grid, &columns[start..end], 0.0);
     figures.over
 }
 

@@ -90,7 +90,7 @@ pub fn advance_to(sketch: MicroCm, timestamp: u64, grid: &mut [u8]) -> SketchAns
     }
     let begun = new - old;
     let cells = sketch.rows * sketch.cols;
-    let crossed = sketch_counting_passes::cross_cells(
+    let crossed = sketch_counting_passes::worker::cross_cells(
         grid,
         params.t,
         params.c,

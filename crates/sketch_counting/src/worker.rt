@@ -52,7 +52,7 @@ fn moved(
 {
     if moves {
         let begun = new - old;
-        return sketch_counting_passes::cross_cells(grid, t, c, count, new, begun, state);
+        return sketch_counting_passes::worker::cross_cells(grid, t, c, count, new, begun, state);
     }
     Passed { state, draws: 0 }
 }
@@ -86,7 +86,13 @@ pub fn count(
     let c = params.c;
     let cells = sketch.rows * sketch.cols;
     let before = moved(cells, t, c, n != old, old, new, rounding.state, grid);
-    let recorded = sketch_counting_passes::insert_each(sketch, &key[..], grid, n, before.state);
+    let recorded = sketch_counting_passes::worker::insert_each(
+        sketch,
+        &key[..],
+        grid,
+        n,
+        before.state,
+    );
     let last = moved(cells, t, c, new != n, old, new, recorded.state, grid);
     Counted {
         verdict,

@@ -22,7 +22,7 @@ use Rattle.sketch.specs.Refusals.{keyFits, refuseSketch, refuseKey, readVerdict
 use Rattle.sketch.specs.Workers.{Ready, Readable}
 use Rattle.sketch.proofs.ReadyLaws.{keyed-ready}
 use Rattle.sketch.proofs.ReadingLaws.{keyed, keyed-gate, cells, fractionThen}
-use Rattle.sketch_reading_figures.specs.declared.Estimated.{Estimated}
+use Rattle.sketch_reading_figures.specs.declared.worker.Estimated.{Estimated}
 use Rattle.sketch_reading_figures.specs.Workers.{estimateOf}
 
 -- THE FRACTION

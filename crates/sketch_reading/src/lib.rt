@@ -6,7 +6,7 @@ use sketch::MeanAnswer;
 use sketch::MicroCm;
 use sketch::Reading;
 use sketch::ReadingAnswer;
-use sketch_reading_figures::Estimated;
+use sketch_reading_figures::worker::Estimated;
 ghost use mathlib.Core.Path.{_≡_};
 ghost use Rattle.sketch.specs.Refusals.{noReading, readCall, readWithCall, meanCall};
 
@@ -50,7 +50,7 @@ pub fn estimate(sketch: MicroCm, key: &[u32], grid: &[u8]) -> ReadingAnswer
     let fraction = clock::worker::fraction(clock);
     told(
         verdict,
-        sketch_reading_figures::estimate(sketch, grid, key, fraction),
+        sketch_reading_figures::worker::estimate(sketch, grid, key, fraction),
     )
 }
 
@@ -64,7 +64,7 @@ pub fn estimate_with(sketch: MicroCm, key: &[u32], fraction: f64, grid: &[u8]) -
     }
     told(
         verdict,
-        sketch_reading_figures::estimate(sketch, grid, key, fraction),
+        sketch_reading_figures::worker::estimate(sketch, grid, key, fraction),
     )
 }
 
@@ -77,6 +77,6 @@ pub fn mean(sketch: MicroCm, key: &[u32], grid: &[u8]) -> MeanAnswer
         return MeanAnswer { verdict, mean: 0 };
     }
     let params = sketch.params;
-    let mean = sketch_reading_figures::under(sketch, grid, key) / params.t as u64;
+    let mean = sketch_reading_figures::worker::under(sketch, grid, key) / params.t as u64;
     MeanAnswer { verdict, mean }
 }

@@ -7,8 +7,8 @@ use lib.Ieee.{Float, binary64, add, mul}
 use Rattle.laws.specs.Figure.{figure}
 use Rattle.clock.specs.Clock.{nOf}
 use Rattle.sketch.specs.declared.MicroCm.{MicroCm}
-use Rattle.sketch_reading_figures.specs.declared.Exact.{Exact}
-use Rattle.sketch_reading_figures.specs.declared.Estimated.{Estimated}
+use Rattle.sketch_reading_figures.specs.declared.worker.Exact.{Exact}
+use Rattle.sketch_reading_figures.specs.declared.worker.Estimated.{Estimated}
 use Rattle.sketch.specs.Figures.{leastIn, underOf, oldestOf}
 use Rattle.sketch_reading_figures.specs.Workers.{exactly, youngEstimate, agedEstimate, estimateOf}
 use Rattle.sketch.proofs.FigureLaws.{over-young, over-aged, linear-young, linear-aged}

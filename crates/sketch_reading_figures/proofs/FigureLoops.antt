@@ -14,7 +14,7 @@ use Rattle.laws.specs.Figure.{figure}
 use Rattle.laws.proofs.FigureLaws.{figure-add}
 use Rattle.clock.specs.Clock.{nOf}
 use Rattle.sketch.specs.declared.MicroCm.{MicroCm}
-use Rattle.sketch_reading_figures.specs.declared.Exact.{Exact}
+use Rattle.sketch_reading_figures.specs.declared.worker.Exact.{Exact}
 use Rattle.sketch.specs.Figures.{rowItems, leastIn, leastBack, sumBack}
 use Rattle.sketch.specs.Workers.{rowUnit}
 use Rattle.sketch_reading_figures.specs.Workers.{Units, exactly}

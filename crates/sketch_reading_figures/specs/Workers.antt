@@ -8,8 +8,8 @@ use Rattle.laws.specs.Figure.{figure}
 use Rattle.sketch.specs.declared.MicroCm.{MicroCm}
 use Rattle.sketch.specs.Figures.{overOf, underOf, oneReading}
 use Rattle.sketch.specs.Workers.{rowUnit}
-use Rattle.sketch_reading_figures.specs.declared.Exact.{Exact}
-use Rattle.sketch_reading_figures.specs.declared.Estimated.{Estimated}
+use Rattle.sketch_reading_figures.specs.declared.worker.Exact.{Exact}
+use Rattle.sketch_reading_figures.specs.declared.worker.Estimated.{Estimated}
 
 -- the units of the key's cells, in the first places of a list
 abbrev pub Units : MicroCm → List ℕ → List ℕ → ℕ → List ℕ → Type 0

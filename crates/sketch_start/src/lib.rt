@@ -1,5 +1,5 @@
 // Document 01, "Sketch and grid": a fresh start.
-pub mod fresh;
+mod judge;
 
 use cell::MicroParams;
 use clock::SubWindowClock;
@@ -22,11 +22,11 @@ pub fn with_dimensions(
 ) -> SketchAnswer
     ensures { λ r. ⌜ sketchOutcome r (now (grid .exit)) ≡ freshCall rows cols params clock seed (now (grid .entry)) ⌝ }
 {
-    let verdict = fresh::judge(rows, cols, params, clock, grid.len());
+    let verdict = judge::start(rows, cols, params, clock, grid.len());
     if !verdict.accepted() {
         return answer::undrawn(verdict, answer::no_sketch());
     }
-    fresh::zero_all(grid);
+    cell_layout::fields::zero_all(grid);
     answer::undrawn(
         verdict,
         MicroCm {

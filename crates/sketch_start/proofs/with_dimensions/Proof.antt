@@ -4,8 +4,8 @@ use borrow.Author.Needs.{needs}
 use Rattle.sketch_start.proofs.with_dimensions.Statement.{statement}
 use Rattle.sketch_start.proofs.with_dimensions.Tie as tie
 
-judge-requires : tie.Need-judge-requires
-judge-requires c κs = search needs
+start-requires : tie.Need-start-requires
+start-requires c κs = search needs
 
 accepted-requires : tie.Need-accepted-requires
 accepted-requires c κs = search needs
@@ -41,7 +41,7 @@ pub with-dimensions-spec : {M : Type 1} → statement M
 with-dimensions-spec =
     tie.close
     (tie.spec
-    judge-requires
+    start-requires
     accepted-requires
     no-sketch-requires
     undrawn-requires

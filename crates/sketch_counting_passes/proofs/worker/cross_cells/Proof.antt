@@ -1,0 +1,86 @@
+-- `cross_cells`: a pass over equal pieces in place, from the front. Assumes nothing.
+use Rattle.laws.proofs.PassLaws.{Going, going-begin, going-room, going-fits, going-on, going-end}
+use Rattle.sketch_counting_passes.proofs.CrossingPass.{piece-sound, piece-fit, pass-room, index-on, few-each}
+use Rattle.cell.specs.Cell.{depthOf}
+use Rattle.sketch_counting_passes.specs.Workers.{crossPiece}
+use Prim.Native.Nat.{_-_}
+use borrow.Author.Needs.{needs}
+use Rattle.sketch_counting_passes.proofs.worker.cross_cells.Statement.{statement}
+use Rattle.sketch_counting_passes.proofs.worker.cross_cells.Tie as tie
+
+abbrev Inv-loop : tie.InvT-loop
+Inv-loop grid₀ t c count n crossed state depth slot after₀ draws₀ start₀ index₀ grid after draws start index = Going (crossPiece t c n crossed) (depthOf t) 4099 count grid₀ state grid after draws start index
+
+abbrev μ-loop : tie.MeasureT-loop
+μ-loop grid₀ t c count n crossed state depth slot after₀ draws₀ start₀ index₀ grid after draws start index = count - index
+
+depth-requires : tie.Need-depth-requires Inv-loop μ-loop
+depth-requires c κs = search needs
+
+sub-slot : tie.Need-sub-slot Inv-loop μ-loop
+sub-slot c = search needs
+
+slot-requires : tie.Need-slot-requires Inv-loop μ-loop
+slot-requires c κs = search needs
+
+loop-holds : tie.Need-loop-holds Inv-loop μ-loop
+loop-holds c = search (going-begin, needs)
+
+add-end : tie.Need-add-end Inv-loop μ-loop
+add-end c = record { fits = search (going-fits, needs) }
+
+sub-enter-sub-window : tie.Need-sub-enter-sub-window Inv-loop μ-loop
+sub-enter-sub-window c = search needs
+
+part-enter-sub-window-start : tie.Need-part-enter-sub-window-start Inv-loop μ-loop
+part-enter-sub-window-start c = search needs
+
+part-enter-sub-window-end : tie.Need-part-enter-sub-window-end Inv-loop μ-loop
+part-enter-sub-window-end c = search (going-room, needs)
+
+enter-sub-window-requires : tie.Need-enter-sub-window-requires Inv-loop μ-loop
+enter-sub-window-requires c κs = (search (piece-fit, needs), search (piece-sound, needs), search needs, search needs)
+
+cast-draws : tie.Need-cast-draws Inv-loop μ-loop
+cast-draws c = search needs
+
+add-draws : tie.Need-add-draws Inv-loop μ-loop
+add-draws c = record { fits = search (pass-room, needs) }
+
+add-index : tie.Need-add-index Inv-loop μ-loop
+add-index c = record { fits = search (index-on, needs) }
+
+loop-less : tie.Need-loop-less Inv-loop μ-loop
+loop-less c = search needs
+
+loop-again : tie.Need-loop-again Inv-loop μ-loop
+loop-again c = search (going-on, few-each, needs)
+
+same-length : tie.Need-same-length Inv-loop μ-loop
+same-length c = search needs
+
+returns : tie.Need-returns Inv-loop μ-loop
+returns c = (search (going-end, needs), search needs)
+
+pub cross-cells-spec : {M : Type 1} → statement M
+cross-cells-spec =
+    tie.close
+    (tie.spec
+    Inv-loop
+    μ-loop
+    depth-requires
+    sub-slot
+    slot-requires
+    loop-holds
+    add-end
+    sub-enter-sub-window
+    part-enter-sub-window-start
+    part-enter-sub-window-end
+    enter-sub-window-requires
+    cast-draws
+    add-draws
+    add-index
+    loop-less
+    loop-again
+    same-length
+    returns)
