@@ -1,4 +1,5 @@
 pub mod BenchItems
+pub mod SettingsExamples
 pub mod LayoutLaws
 pub mod PowerLaws
 pub mod SmallLaws

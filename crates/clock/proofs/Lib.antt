@@ -1,3 +1,4 @@
 pub mod CallLaws
 pub mod ClockLaws
 pub mod CauseTheorems
+pub mod Examples
