@@ -1,0 +1,51 @@
+/*
+ * What the C tests share. Each makes calls of the library and prints what came of them; tools/try_edge compares that
+ * with the recorded text beside the test.
+ */
+#ifndef TESTS_H
+#define TESTS_H
+
+#include <inttypes.h>
+#include <stdbool.h>
+#include <stdio.h>
+#include <string.h>
+
+#include "microscope.h"
+
+/* Bytes as they are lent: an address and a length. */
+struct bytes {
+    const uint8_t *at;
+    size_t count;
+};
+
+static inline bool same_bytes(const void *one, const void *other, size_t count) {
+    return memcmp(one, other, count) == 0;
+}
+
+/* `accepted`, `refused by 6`; with 14 the index follows behind its word. */
+static inline void print_verdict(uint64_t number, size_t index, const char *word) {
+    if (number == MICROSCOPE_ACCEPTED) {
+        printf("accepted");
+        return;
+    }
+    printf("refused by %" PRIu64, number);
+    if (number == MICROSCOPE_UNSOUND) {
+        printf("%s%zu", word, index);
+    }
+}
+
+/* The sum of byte i times i + 1: by it a long cell is told, and a block of a store checked. */
+static inline uint64_t weighed(const uint8_t *bytes, size_t count) {
+    uint64_t sum = 0;
+    for (size_t i = 0; i < count; i++) {
+        sum += (i + 1) * bytes[i];
+    }
+    return sum;
+}
+
+/* The bytes of a cell by document 01's words: t + 7, rounded up to a multiple of 4. */
+static inline size_t depth_of(size_t t) {
+    return (t + 10) / 4 * 4;
+}
+
+#endif
