@@ -1,4 +1,4 @@
-// Writes the cases of crates/try_pairs/data/pairs to standard output (docs/PAIRS.md). Written from document 01's words
+// Writes the cases of tests/pairs.data to standard output (docs/PAIRS.md). Written from document 01's words
 // ("Turning a call back", "Audit and block store") and document 02's T-01; nothing here comes from our own code.
 //
 // A good call is spoiled once for each cause of a case. The causes of a call stand in a list, in the order of the table, where

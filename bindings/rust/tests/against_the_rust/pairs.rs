@@ -1,4 +1,4 @@
-//! The recorded pairs of causes, crates/try_pairs/data/pairs: each call is refused by the number recorded with it.
+//! The recorded pairs of causes, tests/pairs.data: each call is refused by the number recorded with it.
 
 use crate::code_calls::{self, Kept};
 use crate::damage;
@@ -11,7 +11,7 @@ use microscope::calls::{KEPT_COLUMNS, MOST_CODES, Sketch, Watch};
 
 pub const ALL: [(&str, fn() -> Outcome); 1] = [("recorded pairs", recorded)];
 
-static RECORDED: &[u8] = include_bytes!("../../../../crates/try_pairs/data/pairs");
+static RECORDED: &[u8] = include_bytes!("../../../../tests/pairs.data");
 
 const WORDS: usize = 34;
 
