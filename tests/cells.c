@@ -9,6 +9,12 @@
  */
 #include "tests.h"
 
+/* Bytes as they are lent: an address and a length. */
+struct bytes {
+    const uint8_t *at;
+    size_t count;
+};
+
 #define CELL(...) ((struct bytes){(const uint8_t[]){__VA_ARGS__}, sizeof(const uint8_t[]){__VA_ARGS__}})
 
 /* Of t = 1: a cell in order, one byte short, one byte long, with a zoom above every max_zoom, and that one byte long. */

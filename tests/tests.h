@@ -12,12 +12,6 @@
 
 #include "microscope.h"
 
-/* Bytes as they are lent: an address and a length. */
-struct bytes {
-    const uint8_t *at;
-    size_t count;
-};
-
 static inline bool same_bytes(const void *one, const void *other, size_t count) {
     return memcmp(one, other, count) == 0;
 }
