@@ -164,7 +164,7 @@ pub band-exact : (S : Settings) → AcceptedSettings S → (seed : ℕ) (calls :
 band-exact S ok seed calls key right e =
     let good = good-settings (S .rows) (S .cols) (S .params) (S .clock) ok in
     let power : S .params .c ^ 1 ≡ S .params .c = rw (pow-suc (S .params .c) 0, pow-zero (S .params .c)) (one-mul (S .params .c)) in
-    let top : 1 ≤ maxZoom (S .params .c) = zoom-below (S .params .c) (good .c-low) 1 (omega (arith, good .c-high)) in
+    let top : 1 ≤ maxZoom (S .params .c) = zoom-below (S .params .c) (good .fit .c-low) 1 (omega (arith, good .fit .c-high)) in
     let never : NeverAtTop S seed calls key = λ row h. omega (arith, le-largest (S .rows - 1) (peakIn S seed calls key) row (omega arith)) in
     let b = band S ok seed calls key right never in
     let z : bandWidth (covered S (tally S calls)) (S .params .c) (highestHeld S seed calls key) ≡ 0 = rw (e, pow-zero (S .params .c)) (mul-zero (2 * covered S (tally S calls) - 1)) in

@@ -7,7 +7,7 @@ use native.Mathlib.Omega.{arith}
 use native.Mathlib.Nat.{min-eq-left}
 use lib.Dec.{ltb, eqb}
 use lib.ListN.{length, take}
-use borrow.Author.Tests.{ltb-false, eqb-true, ne-eqb, not-true}
+use borrow.Author.Tests.{ltb-false, eqb-true, ne-eqb, not-true, not-false}
 use Rattle.laws.proofs.ChoiceLaws.{both-hold}
 use Rattle.refusal.specs.declared.Verdict.{Verdict}
 use Rattle.refusal.specs.declared.Verdict.the-variants.{Accepted, Refused, Unsound}
@@ -20,7 +20,7 @@ use Rattle.sketch.specs.Refusals.{allBelow, refuseSketch, refuseUnsound, sketch
 use Rattle.sketch.specs.Causes.{sketchCauses}
 use Rattle.sketch.specs.Workers.{Ready, Judged}
 use Rattle.sketch.proofs.SketchGates.{settingsOf, judged, settings-gate, judged-gate, sketch-gate}
-use Rattle.sketch.proofs.SettingsLaws.{not-false, GoodSettings, good-settings}
+use Rattle.sketch.proofs.SettingsLaws.{GoodSettings, good-settings}
 use Rattle.sketch.proofs.ReadyLaws.{ready-of}
 use Rattle.codes.specs.declared.Watch.{Watch}
 use Rattle.codes.specs.Codes.{watchedCells}

@@ -2,10 +2,9 @@
 use Prim.Native.Nat.{ℕ}
 use mathlib.Core.List.{List, [], _∷_, _++_}
 use Rattle.refusal.specs.Causes.{Cause, Told}
-use Rattle.rounding.specs.Refusals.{noState}
 use Rattle.sketch.specs.declared.MicroCm.{MicroCm}
 use Rattle.sketch.specs.Refusals.{badCells}
-use Rattle.sketch.specs.Causes.{settingsCauses, sketchCauses}
+use Rattle.sketch.specs.Causes.{numbersCauses, sketchCauses}
 use Rattle.codes.specs.declared.Watch.{Watch}
 use Rattle.codes.specs.Codes.{watchedCells}
 use Rattle.codes.specs.Refusals.{badCodes, foreignCodes, manyCodes, shortList, setVerdict, askVerdict}
@@ -13,7 +12,7 @@ use Rattle.codes.specs.Refusals.{badCodes, foreignCodes, manyCodes, shor
 -- SETTING: 1 to 5, 7, 19
 abbrev pub setCauses : MicroCm → List ℕ → ℕ → List Cause
 setCauses k columns count =
-    settingsCauses (k .rows) (k .cols) (k .params) (k .clock) ++ noState (k .rounding .state) ∷ badCodes k columns count ∷ manyCodes count ∷ []
+    numbersCauses k ++ badCodes k columns count ∷ manyCodes count ∷ []
 
 -- ASKING: 1 to 6, 7, 19, 20, 14 over the cells of all the codes
 abbrev pub askCauses : MicroCm → Watch → List ℕ → List ℕ → ℕ → List Cause

@@ -8,9 +8,8 @@ use Rattle.refusal.specs.declared.Verdict.{Verdict}
 use Rattle.refusal.specs.declared.Verdict.the-variants.{Accepted}
 use Rattle.refusal.specs.Refusals.{whenAccepted}
 use Rattle.refusal.specs.Causes.{Cause, cause, refuseBy}
-use Rattle.rounding.specs.Refusals.{refuseState}
 use Rattle.sketch.specs.declared.MicroCm.{MicroCm}
-use Rattle.sketch.specs.Refusals.{allBelow, refuseSettings, refuseSketch, refuseUnsound}
+use Rattle.sketch.specs.Refusals.{allBelow, refuseNumbers, refuseSketch, refuseUnsound}
 use Rattle.codes.specs.declared.Watch.{Watch}
 use Rattle.codes.specs.declared.WatchAnswer.{WatchAnswer}
 use Rattle.codes.specs.declared.AskAnswer.{AskAnswer}
@@ -45,8 +44,7 @@ shortList count room = cause 20 (ltb room count)
 -- SETTING: 1 to 5, 7, 19; it is lent no grid, and judges no cell
 abbrev pub setVerdict : MicroCm → List ℕ → ℕ → Verdict
 setVerdict k columns count =
-    refuseSettings (k .rows) (k .cols) (k .params) (k .clock)
-    (refuseState (k .rounding .state) (refuseBy (badCodes k columns count) (refuseBy (manyCodes count) Accepted)))
+    refuseNumbers k (refuseBy (badCodes k columns count) (refuseBy (manyCodes count) Accepted))
 
 -- a list of so many codes, none of which was at its limit before
 abbrev pub newList : MicroCm → ℕ → Watch

@@ -16,10 +16,9 @@ use Rattle.refusal.specs.Refusals.{isAccepted}
 use Rattle.refusal.proofs.VerdictLaws.{refused-leaves, turned-back, let-pass}
 use Rattle.refusal.proofs.GateLaws.{gate-open, gate-shut, gate-passed}
 use Rattle.sketch.specs.declared.MicroCm.{MicroCm}
-use Rattle.sketch.specs.Refusals.{allBelow}
+use Rattle.sketch.specs.Refusals.{allBelow, numbersVerdict}
 use Rattle.sketch.proofs.SettingsLaws.{good-settings}
 use Rattle.sketch.proofs.SketchGates.{settingsOf, settings-gate, judged, judged-gate}
-use Rattle.store_header.specs.Refusals.{lengthVerdict}
 use Rattle.codes.specs.declared.Watch.{Watch}
 use Rattle.codes.specs.Codes.{onto}
 use Rattle.codes.specs.Refusals.{codesFit, setVerdict, newList, setOutcome, setCall}
@@ -75,14 +74,14 @@ module _ (k : MicroCm) (columns : List ℕ) (count : ℕ) where
     fit-below h low el = rw (← eo, h) el
 
   -- THE VERDICT
-  module _ (v : Verdict) (ev : v ≡ lengthVerdict k) (ok : Bool) (asked : ok ≡ isAccepted v) where
+  module _ (v : Verdict) (ev : v ≡ numbersVerdict k) (ok : Bool) (asked : ok ≡ isAccepted v) where
     pub settings-shut : not ok ≡ true → v ≡ setVerdict k columns count
     settings-shut n = sym (gate-shut (judged k) (judged-gate k) _ v ev (turned-back v ok asked n))
 
     module _ (a : not ok ≡ false) where
       pub some-rows : 0 < k .rows
       some-rows =
-          let e : lengthVerdict k ≡ Accepted = sym ev ∙ let-pass v ok asked a in
+          let e : numbersVerdict k ≡ Accepted = sym ev ∙ let-pass v ok asked a in
           let s = good-settings (k .rows) (k .cols) (k .params) (k .clock) (gate-passed (settingsOf k) (settings-gate k) _ e .0) in
           omega (arith, s .grid .rows-low)
 

@@ -34,7 +34,7 @@ fn codes_fit(sketch: MicroCm, columns: &[u32], count: usize) -> bool
 pub fn setting(sketch: MicroCm, columns: &[u32], count: usize) -> Verdict
     ensures { λ r. ⌜ r ≡ setVerdict sketch (now (columns .entry)) count ⌝ }
 {
-    let verdict = store_header::judge::settings(sketch);
+    let verdict = sketch_judging::judge::numbers(sketch);
     if !verdict.accepted() {
         return verdict;
     }

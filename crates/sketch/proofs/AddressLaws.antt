@@ -67,7 +67,7 @@ module _ (k : MicroCm) (size : ℕ) (ready : Ready k size) where
   index-next index count e h = omega (arith, cells-few)
 
   pub grid-short : gridBytes k < 2 ^ 36
-  grid-short = omega (arith, product-le (cellsOf k) (depthOf (k .params .t)) (2 ^ 23) 4104 cells-few (omega (arith, ready .t-high)))
+  grid-short = omega (arith, product-le (cellsOf k) (depthOf (k .params .t)) (2 ^ 23) 4104 cells-few (omega (arith, ready .fit .t-high)))
 
   module _ (index d : ℕ) (inside : index < cellsOf k) (is : d ≡ depthOf (k .params .t)) where
     pub cell-room : index * d + depthOf (k .params .t) ≤ size

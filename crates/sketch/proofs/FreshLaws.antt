@@ -6,7 +6,7 @@ use mathlib.Core.List.{List}
 use native.Mathlib.Omega.{arith}
 use lib.Dec.{eqb}
 use lib.ListN.{length, replicate}
-use borrow.Author.Tests.{eq-eqb, ne-eqb, eqb-true}
+use borrow.Author.Tests.{eq-eqb, ne-eqb, eqb-true, not-false}
 use Rattle.refusal.specs.declared.Verdict.{Verdict}
 use Rattle.refusal.specs.declared.Verdict.the-variants.{Accepted, Refused}
 use Rattle.refusal.specs.Refusals.{isAccepted, refuse, whenAccepted}
@@ -22,7 +22,7 @@ use Rattle.sketch.specs.declared.MicroCm.{MicroCm}
 use Rattle.sketch.specs.declared.SketchAnswer.{SketchAnswer}
 use Rattle.sketch.specs.Sketch.{World, freshSketch, freshGrid, gridBytes}
 use Rattle.sketch.specs.Refusals.{refuseSettings, sketchOutcome, noSketch, world, freshCall, undrawn}
-use Rattle.sketch.proofs.SettingsLaws.{GoodSettings, not-false, good-settings}
+use Rattle.sketch.proofs.SettingsLaws.{GoodSettings, good-settings}
 use Rattle.sketch.proofs.SketchGates.{settingsOf, settings-gate}
 use Rattle.sketch.proofs.AddressLaws.{product-le}
 
@@ -51,11 +51,11 @@ module _ (rows cols : ℕ) (p : MicroParams) (clock : SubWindowClock) where
       fresh-cells = omega (arith, cells-le)
 
       pub fresh-short : p .t ≤ 4096
-      fresh-short = good .t-high
+      fresh-short = good .fit .t-high
 
       module _ (d : ℕ) (ed : d ≡ depthOf (p .t)) where
         pub fresh-bytes : rows * cols * d < 2 ^ 64
-        fresh-bytes = omega (arith, product-le (rows * cols) d (2 ^ 23) 4104 cells-le (omega (arith, good .t-high)))
+        fresh-bytes = omega (arith, product-le (rows * cols) d (2 ^ 23) 4104 cells-le (omega (arith, good .fit .t-high)))
 
         size-left : refuseSettings rows cols p clock (refuseSize size) ≡ refuseSize size
         size-left = gate-open (settingsOf given) (settings-gate given) (refuseSize size) (sym ej ∙ let-pass judged ok asked a)

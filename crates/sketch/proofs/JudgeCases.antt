@@ -11,6 +11,7 @@ use Rattle.refusal.specs.declared.Verdict.the-variants.{Accepted, Refused}
 use Rattle.refusal.specs.Refusals.{isAccepted, refuse, outside, whenAccepted}
 use Rattle.refusal.proofs.VerdictLaws.{refused-leaves, turned-back, let-pass}
 use Rattle.refusal.proofs.GateLaws.{gate-open, gate-shut}
+use Rattle.rounding.specs.Refusals.{refuseState}
 use Rattle.cell.specs.declared.MicroParams.{MicroParams}
 use Rattle.cell.specs.Cell.{depthOf}
 use Rattle.cell.specs.Refusals.{paramsVerdict, refuseParams}
@@ -19,7 +20,7 @@ use Rattle.clock.specs.Clock.{lengthOf}
 use Rattle.clock.specs.Refusals.{lengthVerdict, refuseLength}
 use Rattle.sketch.specs.declared.MicroCm.{MicroCm}
 use Rattle.sketch.specs.Sketch.{gridBytes}
-use Rattle.sketch.specs.Refusals.{gridFits, refuseSettings, sketchVerdict}
+use Rattle.sketch.specs.Refusals.{gridFits, refuseSettings, sketchVerdict, numbersVerdict}
 use Rattle.sketch.proofs.SketchGates.{settingsOf, settings-gate}
 use Rattle.sketch.proofs.SettingsLaws.{GoodSettings, good-settings}
 use Rattle.sketch.proofs.AddressLaws.{product-le}
@@ -62,6 +63,21 @@ module _ (rows cols : ℕ) (p : MicroParams) (clock : SubWindowClock) (cells : V
       pub shape-refused : fits ≡ false → Refused 4 ≡ refuseSettings rows cols p clock Accepted
       shape-refused t = sym (past-params _ ∙ past-length _ ∙ rw (← ef, t) refl)
 
+-- A SKETCH'S OWN NUMBERS
+module _ (k : MicroCm) (v : Verdict) (ok : Bool) (ev : v ≡ settingsOf k Accepted) (asked : ok ≡ isAccepted v) where
+  pub numbers-refused : not ok ≡ true → v ≡ numbersVerdict k
+  numbers-refused h = sym (gate-shut (settingsOf k) (settings-gate k) (refuseState (k .rounding .state) Accepted) v ev (turned-back v ok asked h))
+
+  module _ (h : not ok ≡ false) where
+    past : numbersVerdict k ≡ refuseState (k .rounding .state) Accepted
+    past = gate-open (settingsOf k) (settings-gate k) (refuseState (k .rounding .state) Accepted) (sym ev ∙ let-pass v ok asked h)
+
+    pub numbers-none : k .rounding .state ≡ 0 → Refused 5 ≡ numbersVerdict k
+    numbers-none e = sym (past ∙ rw (eq-eqb _ _ e))
+
+    pub numbers-pass : (k .rounding .state ≡ 0 → ⊥) → Accepted ≡ numbersVerdict k
+    numbers-pass n = sym (past ∙ rw (ne-eqb _ _ n))
+
 -- A SKETCH with its grid
 module _ (k : MicroCm) (g : List ℕ) (judged : Verdict) (ej : judged ≡ refuseSettings (k .rows) (k .cols) (k .params) (k .clock) Accepted) (ok : Bool) (asked : ok ≡ isAccepted judged) where
   pub settings-refused : not ok ≡ true → judged ≡ sketchVerdict k g
@@ -93,7 +109,7 @@ module _ (k : MicroCm) (g : List ℕ) (judged : Verdict) (ej : judged ≡ refuse
 
     pub size-fits : (d : ℕ) → d ≡ depthOf (k .params .t) → k .rows * k .cols * d < 2 ^ 64
     size-fits d ed =
-        omega (arith, product-le (k .rows * k .cols) d (2 ^ 23) 4104 (product-le (k .rows) (k .cols) 128 65536 (good .grid .rows-high) (good .grid .cols-high)) (omega (arith, good .t-high)))
+        omega (arith, product-le (k .rows * k .cols) d (2 ^ 23) 4104 (product-le (k .rows) (k .cols) 128 65536 (good .grid .rows-high) (good .grid .cols-high)) (omega (arith, good .fit .t-high)))
 
     pub t-few : k .params .t ≤ 4096
-    t-few = good .t-high
+    t-few = good .fit .t-high

@@ -59,7 +59,7 @@ module _ (k : MicroCm) (g : List ℕ) where
 pub sound-cells : (k : MicroCm) (g : List ℕ) → Ready k (length g) → Judged k g (allCells k) → SoundCells (k .params .t) (k .params .c) (cellsOf k) g
 sound-cells k g r w =
     record {
-      fit = record { t-low = r .t-low; t-high = r .t-high; c-low = r .c-low; c-high = r .c-high; size-is = refl };
+      fit = r .fit;
       few = cells-few k (length g) r;
       room = omega (arith, r .size-is);
       sound = λ i h. judged-all k g i w h;

@@ -21,7 +21,7 @@ module _ (k : MicroCm) (g key : List ℕ) (w : Readable k key g) (row : ℕ) (h 
   row-sound = rw zero-add at (judged-key k g key 0 row (w .judged) (rw (key-rows k key (w .fits)) h))
 
   pub row-unit-le : rowUnit k g key row ≤ 2 ^ 32 - 1
-  row-unit-le = sound-unit (k .params .t) (k .params .c) (cellOf k g (keyCell k key row)) row-sound (w .ready .c-low)
+  row-unit-le = sound-unit (k .params .t) (k .params .c) (cellOf k g (keyCell k key row)) row-sound (w .ready .fit .c-low)
 
   pub row-shutter : shutterOf (k .params .t) (cellOf k g (keyCell k key row)) < rowUnit k g key row
   row-shutter = sound-shutter (k .params .t) (k .params .c) (cellOf k g (keyCell k key row)) row-sound

@@ -67,7 +67,7 @@ module _ (k : MicroCm) (key g : List ℕ) where
       by : (x : Bool) → isAccepted (keyed Accepted) ≡ x → keyed cells ≡ keyed (fractionThen (fractionOf (k .clock)))
       by true e =
           let ready = keyed-ready k key g (accepted-is (keyed Accepted) e) .0 in
-          let good : GoodLength (k .clock) = record { some = ready .length-low; short = ready .length-high } in
+          let good : GoodLength (k .clock) = ready .timed in
           ap keyed (sym (unit-passes (fractionOf (k .clock)) (fraction-in-unit (k .clock) good)))
       by false e =
           gate-shut keyed keyed-gate cells (keyed Accepted) refl e ∙ sym (gate-shut keyed keyed-gate (fractionThen (fractionOf (k .clock))) (keyed Accepted) refl e)

@@ -5,7 +5,7 @@ use mathlib.Core.Bool.{Bool, true, false, not, true≢false}
 use mathlib.Core.List.{List}
 use lib.Dec.{eqb}
 use lib.ListN.{length}
-use borrow.Author.Tests.{eq-eqb, eqb-true}
+use borrow.Author.Tests.{eq-eqb, eqb-true, not-false}
 use Rattle.refusal.specs.declared.Verdict.{Verdict}
 use Rattle.refusal.specs.declared.Verdict.the-variants.{Accepted, Refused}
 use Rattle.refusal.specs.Refusals.{isAccepted}
@@ -16,7 +16,7 @@ use Rattle.sketch.specs.declared.MicroCm.{MicroCm}
 use Rattle.sketch.specs.Sketch.{gridBytes}
 use Rattle.sketch.specs.Refusals.{keyFits, refuseGrid, refuseKey, refuseSketch, sketchVerdict}
 use Rattle.sketch.specs.Workers.{Ready}
-use Rattle.sketch.proofs.SettingsLaws.{not-false, good-settings}
+use Rattle.sketch.proofs.SettingsLaws.{good-settings}
 use Rattle.sketch.proofs.SketchGates.{settingsOf, settings-gate, sketch-gate}
 
 -- a sketch with its grid
@@ -34,12 +34,8 @@ module _ (k : MicroCm) (g : List ℕ) (e : sketchVerdict k g ≡ Accepted) where
   ready-of =
       let s = good-settings (k .rows) (k .cols) (k .params) (k .clock) (past-settings .0) in
       record {
-        t-low = s .t-low;
-        t-high = s .t-high;
-        c-low = s .c-low;
-        c-high = s .c-high;
-        length-low = s .length-low;
-        length-high = s .length-high;
+        fit = s .fit;
+        timed = s .timed;
         rows-low = s .grid .rows-low;
         rows-high = s .grid .rows-high;
         cols-low = s .grid .cols-low;

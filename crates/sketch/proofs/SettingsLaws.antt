@@ -5,12 +5,15 @@ use mathlib.Core.Bool.{Bool, true, false, not, cond, _&&_, true≢false}
 use native.Mathlib.Omega.{arith}
 use native.Mathlib.Nat.{mul-le-mul-left, pow-le-pow-right}
 use lib.Dec.{leb, eqb}
-use borrow.Author.Tests.{leb-true, eqb-true}
+use borrow.Author.Tests.{leb-true, eqb-true, not-false}
 use Rattle.refusal.specs.declared.Verdict.the-variants.{Accepted}
 use Rattle.refusal.proofs.VerdictLaws.{not-refused, inside-range}
 use Rattle.cell.specs.declared.MicroParams.{MicroParams}
+use Rattle.cell.specs.Cell.{depthOf}
+use Rattle.cell.specs.Workers.{Fit}
 use Rattle.clock.specs.declared.SubWindowClock.{SubWindowClock}
 use Rattle.clock.specs.Clock.{lengthOf}
+use Rattle.clock.specs.Workers.{GoodLength}
 use Rattle.sketch.specs.Refusals.{bitsUpTo, gridFits, refuseSettings}
 
 -- a test of several parts holds in each
@@ -18,10 +21,6 @@ all-three : (a b c : Bool) → a && b && c ≡ true → (a ≡ true) × (b ≡ t
 all-three true true c e = (refl, refl, e)
 all-three true false c e = absurd (true≢false (sym e))
 all-three false b c e = absurd (true≢false (sym e))
-
-pub not-false : (a : Bool) → not a ≡ false → a ≡ true
-not-false true e = refl
-not-false false e = absurd (true≢false e)
 
 -- cols is the power of two that its bits say
 pub bits-power : (k cols : ℕ) → 1 ≤ bitsUpTo k cols → (cols ≡ 2 ^ bitsUpTo k cols) × (bitsUpTo k cols ≤ k)
@@ -66,12 +65,8 @@ good-grid rows cols e =
     }
 
 pub record GoodSettings (rows cols : ℕ) (p : MicroParams) (clock : SubWindowClock) : Type 0 where
-  pub t-low : 1 ≤ p .t
-  pub t-high : p .t ≤ 4096
-  pub c-low : 2 ≤ p .c
-  pub c-high : p .c ≤ 256
-  pub length-low : 1 ≤ lengthOf clock
-  pub length-high : lengthOf clock ≤ 2 ^ 53
+  pub fit : Fit (p .t) (p .c) (depthOf (p .t))
+  pub timed : GoodLength clock
   pub grid : GoodGrid rows cols
 
 pub good-settings : (rows cols : ℕ) (p : MicroParams) (clock : SubWindowClock) → refuseSettings rows cols p clock Accepted ≡ Accepted → GoodSettings rows cols p clock
@@ -81,11 +76,17 @@ good-settings rows cols p clock e =
     let no3 = not-refused 3 _ _ (no2 .1) in
     let no4 = not-refused 4 _ _ (no3 .1) in
     record {
-      t-low = inside-range 1 4096 (p .t) (no1 .0) .0;
-      t-high = inside-range 1 4096 (p .t) (no1 .0) .1;
-      c-low = inside-range 2 256 (p .c) (no2 .0) .0;
-      c-high = inside-range 2 256 (p .c) (no2 .0) .1;
-      length-low = inside-range 1 (2 ^ 53) (lengthOf clock) (no3 .0) .0;
-      length-high = inside-range 1 (2 ^ 53) (lengthOf clock) (no3 .0) .1;
+      fit =
+          record {
+            t-low = inside-range 1 4096 (p .t) (no1 .0) .0;
+            t-high = inside-range 1 4096 (p .t) (no1 .0) .1;
+            c-low = inside-range 2 256 (p .c) (no2 .0) .0;
+            c-high = inside-range 2 256 (p .c) (no2 .0) .1;
+            size-is = refl;
+          };
+      timed = record {
+        some = inside-range 1 (2 ^ 53) (lengthOf clock) (no3 .0) .0;
+        short = inside-range 1 (2 ^ 53) (lengthOf clock) (no3 .0) .1;
+      };
       grid = good-grid rows cols (not-false _ (no4 .0));
     }

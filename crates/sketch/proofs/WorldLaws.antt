@@ -137,4 +137,4 @@ module _ (k : MicroCm) where
 
 -- accepted settings give a cell its depth
 pub settings-fit : (rows cols : ℕ) (p : MicroParams) (clock : SubWindowClock) → GoodSettings rows cols p clock → Fit (p .t) (p .c) (depthOf (p .t))
-settings-fit rows cols p clock h = record { t-low = h .t-low; t-high = h .t-high; c-low = h .c-low; c-high = h .c-high; size-is = refl }
+settings-fit rows cols p clock h = h .fit

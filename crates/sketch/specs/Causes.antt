@@ -18,9 +18,13 @@ use Rattle.sketch.specs.Refusals.{badDimensions, badGrid, badKey, noCell
 abbrev pub settingsCauses : ℕ → ℕ → MicroParams → SubWindowClock → List Cause
 settingsCauses rows cols p clock = badWindow p ∷ badBase (p .c) ∷ badLength clock ∷ badDimensions rows cols ∷ []
 
+-- 1 to 5: a sketch's own numbers
+abbrev pub numbersCauses : MicroCm → List Cause
+numbersCauses k = settingsCauses (k .rows) (k .cols) (k .params) (k .clock) ++ noState (k .rounding .state) ∷ []
+
 -- 1 to 6: a sketch that is handed in with its grid; the audit has no others
 abbrev pub sketchCauses : MicroCm → List ℕ → List Cause
-sketchCauses k g = settingsCauses (k .rows) (k .cols) (k .params) (k .clock) ++ noState (k .rounding .state) ∷ badGrid k g ∷ []
+sketchCauses k g = numbersCauses k ++ badGrid k g ∷ []
 
 -- A FRESH START: 1 to 4, 6
 abbrev pub freshCauses : ℕ → ℕ → MicroParams → SubWindowClock → ℕ → List ℕ → List Cause

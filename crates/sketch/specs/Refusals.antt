@@ -97,10 +97,16 @@ refuseSettings rows cols p clock rest = refuseParams p (refuseLength clock (refu
 abbrev pub refuseGrid : MicroCm → List ℕ → Verdict → Verdict
 refuseGrid k g rest = refuseBy (badGrid k g) rest
 
+-- 1 to 5: a sketch's own numbers
+abbrev pub refuseNumbers : MicroCm → Verdict → Verdict
+refuseNumbers k rest = refuseSettings (k .rows) (k .cols) (k .params) (k .clock) (refuseState (k .rounding .state) rest)
+
+abbrev pub numbersVerdict : MicroCm → Verdict
+numbersVerdict k = refuseNumbers k Accepted
+
 -- 1 to 6: a sketch that is handed in with its grid
 abbrev pub refuseSketch : MicroCm → List ℕ → Verdict → Verdict
-refuseSketch k g rest =
-    refuseSettings (k .rows) (k .cols) (k .params) (k .clock) (refuseState (k .rounding .state) (refuseGrid k g rest))
+refuseSketch k g rest = refuseNumbers k (refuseGrid k g rest)
 
 abbrev pub refuseKey : MicroCm → List ℕ → Verdict → Verdict
 refuseKey k key rest = refuseBy (badKey k key) rest

@@ -9,7 +9,7 @@ use Rattle.laws.specs.Parts.{part}
 use Rattle.refusal.specs.declared.Verdict.the-variants.{Accepted, Unsound}
 use Rattle.cell.specs.Cell.{depthOf, unitOf, soundOf}
 use Rattle.cell.specs.Workers.{Fit}
-use Rattle.clock.specs.Clock.{lengthOf}
+use Rattle.clock.specs.Workers.{GoodLength}
 use Rattle.sketch.specs.declared.MicroCm.{MicroCm}
 use Rattle.sketch.specs.declared.Passed.{Passed}
 use Rattle.sketch.specs.Sketch.{gridBytes, cellOf, keyCells}
@@ -19,12 +19,8 @@ use Rattle.sketch.specs.Audit.{firstUnsound}
 
 -- accepted settings, and a grid of so many bytes that goes with them
 pub record Ready (k : MicroCm) (size : ℕ) : Type 0 where
-  pub t-low : 1 ≤ k .params .t
-  pub t-high : k .params .t ≤ 4096
-  pub c-low : 2 ≤ k .params .c
-  pub c-high : k .params .c ≤ 256
-  pub length-low : 1 ≤ lengthOf (k .clock)
-  pub length-high : lengthOf (k .clock) ≤ 2 ^ 53
+  pub fit : Fit (k .params .t) (k .params .c) (depthOf (k .params .t))
+  pub timed : GoodLength (k .clock)
   pub rows-low : 1 ≤ k .rows
   pub rows-high : k .rows ≤ 128
   pub cols-low : 2 ≤ k .cols

@@ -61,7 +61,7 @@ module _ (k : MicroCm) (key g : List ℕ) (clock : SubWindowClock) (wrong : Bool
   item-cells-fit = cells-fit k (length g) ready
 
   fit : Fits k
-  fit = record { t-low = ready .t-low; t-high = ready .t-high; c-low = ready .c-low; c-high = ready .c-high; size-is = refl }
+  fit = ready .fit
 
   below : allBelow (cellsOf k) (keyCells k 0 key) ≡ true
   below = key-cells-below k 0 key (fits-key k key fits)

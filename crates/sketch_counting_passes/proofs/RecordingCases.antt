@@ -31,10 +31,10 @@ module _ (k : MicroCm) (g : List ℕ) (index start d : ℕ) (es : start ≡ inde
   pub lent-fit : Ready k (length g) → start + depthOf t ≤ length g → Fit t c (length (take (start + d - start) (drop start g)))
   lent-fit r room =
       record {
-        t-low = r .t-low;
-        t-high = r .t-high;
-        c-low = r .c-low;
-        c-high = r .c-high;
+        t-low = r .fit .t-low;
+        t-high = r .fit .t-high;
+        c-low = r .fit .c-low;
+        c-high = r .fit .c-high;
         size-is = rw (ed, add-sub-cancel-left) (part-length start (depthOf t) g room);
       }
 

@@ -68,7 +68,7 @@ module _ (k : MicroCm) (n : ℕ) (key g₀ : List ℕ) (σ₀ : ℕ) where
     module _ (fits : keyFits k key ≡ true) (index : ℕ) (ys : List ℕ) (r : cell.Drawn) (more : row < length key) (ei : index ≡ keyCell k key row) (inside : index < cellsOf k)
         (es : stepOf ys r ≡ insertAt k n index g σ) where
       fit : Fit (k .params .t) (k .params .c) (depthOf (k .params .t))
-      fit = record { t-low = w .ready .t-low; t-high = w .ready .t-high; c-low = w .ready .c-low; c-high = w .ready .c-high; size-is = refl }
+      fit = w .ready .fit
 
       room : cellsOf k * depthOf (k .params .t) ≤ length g
       room = omega (arith, w .ready .size-is)

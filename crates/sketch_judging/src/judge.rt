@@ -12,7 +12,7 @@ ghost use Rattle.refusal.specs.declared.Verdict.the-variants.{Accepted, Unsound
 ghost use Rattle.cell.specs.Cell.{soundOf};
 ghost use Rattle.sketch.specs.Sketch.{cellsOf, cellOf, keyCells, allCells};
 ghost use Rattle.sketch.specs.Audit.{firstUnsound};
-ghost use Rattle.sketch.specs.Refusals.{bitsUpTo, gridFits, refuseSettings, refuseSketch, refuseKey, sketchVerdict, allBelow, keyFits};
+ghost use Rattle.sketch.specs.Refusals.{bitsUpTo, gridFits, refuseSettings, refuseSketch, refuseKey, numbersVerdict, sketchVerdict, allBelow, keyFits};
 ghost use Rattle.sketch.specs.Workers.{Ready};
 
 // log2 of cols, and 0 where cols is no power of two from 2 to 65,536.
@@ -73,6 +73,23 @@ pub fn settings(rows: usize, cols: usize, params: MicroParams, clock: SubWindowC
         return Verdict::Accepted;
     }
     Verdict::Refused(4)
+}
+
+// 1 to 5: a sketch's own numbers, before a byte of a grid or a store is looked at.
+pub fn numbers(sketch: MicroCm) -> Verdict
+    ensures { λ r. ⌜ r ≡ numbersVerdict sketch ⌝ }
+{
+    let params = sketch.params;
+    let clock = sketch.clock;
+    let rounding = sketch.rounding;
+    let judged = settings(sketch.rows, sketch.cols, params, clock);
+    if !judged.accepted() {
+        return judged;
+    }
+    if rounding.state == 0 {
+        return Verdict::Refused(5);
+    }
+    Verdict::Accepted
 }
 
 // 1 to 6.

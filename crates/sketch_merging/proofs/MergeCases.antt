@@ -69,7 +69,7 @@ module _ (k : MicroCm) (g : List ℕ) (k' : MicroCm) (g' : List ℕ) (v : Verdic
     merge-ready = ready-of k g (either .0)
 
     pub merge-length : GoodLength (k .clock)
-    merge-length = record { some = merge-ready .length-low; short = merge-ready .length-high }
+    merge-length = merge-ready .timed
 
     pub merge-judged : Judged k g (allCells k)
     merge-judged = sounded .0

@@ -110,13 +110,13 @@ module _ (v v' settings : Verdict) (es : settings ≡ lowerOf v v') (ok : Bool) 
     ready-first ev = ready-of k g (sym ev ∙ both .0)
 
     pub length-first : v ≡ sketchVerdict k g → GoodLength (k .clock)
-    length-first ev = let r = ready-first ev in record { some = r .length-low; short = r .length-high }
+    length-first ev = ready-first ev .timed
 
     pub ready-second : v' ≡ sketchVerdict k g → Ready k (length g)
     ready-second ev = ready-of k g (sym ev ∙ both .1)
 
     pub length-second : v' ≡ sketchVerdict k g → GoodLength (k .clock)
-    length-second ev = let r = ready-second ev in record { some = r .length-low; short = r .length-high }
+    length-second ev = ready-second ev .timed
 
 -- ALL CAUSES
 module _ (k : MicroCm) (g : List ℕ) (k' : MicroCm) (g' : List ℕ) (v v' settings : Verdict) (ev : v ≡ sketchVerdict k g) (ev' : v' ≡ sketchVerdict k' g') (es : settings ≡ lowerOf v v') (ok : Bool)

@@ -76,7 +76,7 @@ module _ (k : MicroCm) (row col : ℕ) (g : List ℕ) where
       bucket-cols = bucket-ready .cols-high
 
       pub bucket-short : k .params .t ≤ 4096
-      bucket-short = bucket-ready .t-high
+      bucket-short = bucket-ready .fit .t-high
 
       pub bucket-is : (index start d : ℕ) → index ≡ cellIndex k row col → start ≡ index * depthOf (k .params .t) → d ≡ depthOf (k .params .t)
           → take (start + d - start) (drop start g) ≡ bucketCall k row col g

@@ -56,7 +56,7 @@ module _ (k : MicroCm) (key g : List ℕ) where
       keyed-fits = good .1
 
       pub keyed-length : GoodLength (k .clock)
-      keyed-length = record { some = good .0 .length-low; short = good .0 .length-high }
+      keyed-length = good .0 .timed
 
       open-to : (rest : Verdict) → keyed k key g rest ≡ rest
       open-to rest = gate-open (keyed k key g) (keyed-gate k key g) rest (sym ev ∙ let-pass v ok asked a)
@@ -117,14 +117,14 @@ module _ (k : MicroCm) (key g : List ℕ) (v : Verdict) (ok : Bool) (asked : ok 
       read-readable = readable k key g (sym ev ∙ let-pass v ok asked h)
 
       pub read-length : GoodLength (k .clock)
-      read-length = record { some = read-readable .ready .length-low; short = read-readable .ready .length-high }
+      read-length = read-readable .ready .timed
 
       pub read-told : (fraction : Float) (e : Estimated) (r : ReadingAnswer) → fraction ≡ fractionOf (k .clock) → e ≡ estimateOf k g key fraction
           → r ≡ record { verdict = v; reading = e .reading; over = e .over; under = e .under } → r ≡ readCall k key g
       read-told fraction e r ef ee er = all-told (fractionOf (k .clock)) r e (ee ∙ rw ef) er h ∙ same-call
 
       pub mean-some : 0 < k .params .t
-      mean-some = omega (arith, read-readable .ready .t-low)
+      mean-some = omega (arith, read-readable .ready .fit .t-low)
 
       pub mean-told : (under : ℕ) → under ≡ underOf k g key → record { verdict = v; mean = under / k .params .t } ≡ meanCall k key g
       unfolding meanCall

@@ -54,7 +54,7 @@ module _ (k : MicroCm) (g key : List ℕ) (w : Readable k key g) (small : (i : �
       omega (arith, total-le (min (nOf (k .clock)) reach) most (leastBack k g key) (λ i l. least-low (nOf (k .clock) - i)))
 
   pub over-low : overOf k g key < 2 ^ 53
-  over-low = sum-low t (w .ready .t-high)
+  over-low = sum-low t (w .ready .fit .t-high)
 
   pub under-low : underOf k g key < 2 ^ 53
-  under-low = sum-low (t - 1) (omega (arith, w .ready .t-high))
+  under-low = sum-low (t - 1) (omega (arith, w .ready .fit .t-high))

@@ -17,10 +17,9 @@ use Rattle.cell.specs.Cell.{pixelsOf, zoomAt, shutterAt, depthOf, zoomOf, shutt
 use Rattle.cell.proofs.SoundLaws.{sound-read}
 use Rattle.sketch.specs.declared.MicroCm.{MicroCm}
 use Rattle.sketch.specs.Sketch.{cellsOf, gridBytes, cellOf, allCells}
-use Rattle.sketch.specs.Refusals.{refuseUnsound}
+use Rattle.sketch.specs.Refusals.{refuseUnsound, numbersVerdict}
 use Rattle.sketch.proofs.JudgeLoops.{AllLeft, all-begin, all-found, all-on, all-end}
 use Rattle.store_blocks.specs.Blocks.{blocksPass, allZero, carried}
-use Rattle.store_header.specs.Refusals.{lengthVerdict}
 use Rattle.store.specs.Store.{storeLength}
 use Rattle.store.specs.Refusals.{refuseBlocks, gridIn, gridVerdict}
 use Rattle.store.specs.Workers.{Sized, Stored}
@@ -28,12 +27,12 @@ use Rattle.store_blocks.proofs.FillLaws.{part-take, part-part}
 use Rattle.store.proofs.SettingsLaws.{settings-good, cells-limit, grid-limit}
 
 -- THE GRID'S BYTES
-module _ (k : MicroCm) (good : lengthVerdict k ≡ Accepted) where
+module _ (k : MicroCm) (good : numbersVerdict k ≡ Accepted) where
   pub cells-fit : k .rows * k .cols < 2 ^ 64
   cells-fit = omega (arith, cells-limit k good)
 
   pub t-few : k .params .t ≤ 4096
-  t-few = settings-good k good .t-high
+  t-few = settings-good k good .fit .t-high
 
   module _ (d : ℕ) (ed : d ≡ depthOf (k .params .t)) where
     size-is : k .rows * k .cols * d ≡ gridBytes k
@@ -46,17 +45,17 @@ module _ (k : MicroCm) (good : lengthVerdict k ≡ Accepted) where
     bytes-are =
         let s = settings-good k good in
         let cells : 1 * 2 ≤ k .rows * k .cols = mul-le-mul (s .grid .rows-low) (s .grid .cols-low) in
-        let depth : 8 ≤ depthOf (k .params .t) = omega (arith, s .t-low) in
+        let depth : 8 ≤ depthOf (k .params .t) = omega (arith, s .fit .t-low) in
         let least : 2 * 8 ≤ gridBytes k = mul-le-mul cells depth in
         record { is = size-is; some = omega (arith, size-is); few = omega (arith, size-is, grid-limit k good) }
 
 -- A STORED CELL: the five bytes behind its pixels
-module _ (k : MicroCm) (good : lengthVerdict k ≡ Accepted) where
+module _ (k : MicroCm) (good : numbersVerdict k ≡ Accepted) where
   pub base-low : 2 ≤ k .params .c
-  base-low = settings-good k good .c-low
+  base-low = settings-good k good .fit .c-low
 
   pub base-high : k .params .c ≤ 256
-  base-high = settings-good k good .c-high
+  base-high = settings-good k good .fit .c-high
 
 module _ (t at : ℕ) (l : List ℕ) where
   abbrev cell : List ℕ

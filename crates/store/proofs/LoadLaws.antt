@@ -10,10 +10,10 @@ use Rattle.refusal.specs.declared.Verdict.the-variants.{Accepted}
 use Rattle.refusal.proofs.VerdictLaws.{not-refused}
 use Rattle.sketch.specs.declared.MicroCm.{MicroCm}
 use Rattle.sketch.specs.Sketch.{gridBytes, allCells}
-use Rattle.sketch.specs.Refusals.{refuseUnsound}
+use Rattle.sketch.specs.Refusals.{refuseUnsound, numbersVerdict}
 use Rattle.store_blocks.specs.Blocks.{blocksPass, allZero, carried}
 use Rattle.store_header.specs.Header.{sketchIn}
-use Rattle.store_header.specs.Refusals.{lengthVerdict, wrongForm, headerVerdict}
+use Rattle.store_header.specs.Refusals.{wrongForm, headerVerdict}
 use Rattle.store.specs.Store.{storeLength}
 use Rattle.store.specs.Refusals.{headerPayload, gridIn, gridVerdict, loadVerdict}
 use Rattle.refusal.proofs.GateLaws.{both-accepted}
@@ -51,7 +51,7 @@ pub record Loadable (g store : List ℕ) : Type 0 where
   pub whole : broken store ≡ false
   pub passes : blocksPass 0 (length store / 512) store ≡ true
   pub form : wrongForm (headerPayload store) ≡ false
-  pub good : lengthVerdict (sketchOf store) ≡ Accepted
+  pub good : numbersVerdict (sketchOf store) ≡ Accepted
   pub kept : Kept (sketchOf store) g store
 
 module _ (g store : List ℕ) where

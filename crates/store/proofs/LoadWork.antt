@@ -15,12 +15,12 @@ use Rattle.refusal.specs.declared.Verdict.the-variants as verdict
 use Rattle.refusal.specs.Refusals.{isAccepted, andThen}
 use Rattle.refusal.proofs.VerdictLaws.{refused-leaves, turned-back, let-pass, not-refused}
 use Rattle.sketch.specs.declared.MicroCm.{MicroCm}
-use Rattle.sketch.specs.Refusals.{noSketch, sketchOutcome, undrawn, world}
+use Rattle.sketch.specs.Refusals.{noSketch, sketchOutcome, undrawn, world, numbersVerdict}
 use Rattle.sketch.specs.declared.SketchAnswer.{SketchAnswer}
 use Rattle.store_header.specs.declared.Header.{Header}
 use Rattle.store_header.specs.declared.Header.the-variants.{Sketch, Refused}
 use Rattle.store_blocks.specs.Blocks.{carried}
-use Rattle.store_header.specs.Refusals.{lengthVerdict, wrongForm, headerVerdict, headerIn, headerNumber}
+use Rattle.store_header.specs.Refusals.{wrongForm, headerVerdict, headerIn, headerNumber}
 use Rattle.store.specs.Refusals.{refuseBlocks, headerPayload, gridVerdict, loadVerdict, loadCall}
 use Rattle.store_blocks.proofs.FillLaws.{part-take}
 use Rattle.store_header.proofs.HeaderLaws.{neither}
@@ -73,8 +73,8 @@ module _ (g store : List ℕ) where
         accepts : headerVerdict (headerPayload store) ≡ Accepted
         accepts = sketch-said (headerPayload store) k (answered ∙ ek) .0
 
-        pub load-good : lengthVerdict k ≡ Accepted
-        load-good = rw sketch-is (not-refused 18 (wrongForm (headerPayload store)) (lengthVerdict (sketchOf store)) accepts .1)
+        pub load-good : numbersVerdict k ≡ Accepted
+        load-good = rw sketch-is (not-refused 18 (wrongForm (headerPayload store)) (numbersVerdict (sketchOf store)) accepts .1)
 
         module _ (v : Verdict) (ok : Bool) (ev : v ≡ gridVerdict k g store) (asked : ok ≡ isAccepted v) where
           grid-left : loadVerdict g store ≡ v

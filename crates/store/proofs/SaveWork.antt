@@ -13,11 +13,10 @@ use Rattle.refusal.specs.Refusals.{isAccepted}
 use Rattle.refusal.proofs.VerdictLaws.{refused-leaves, turned-back, let-pass}
 use Rattle.sketch.specs.declared.MicroCm.{MicroCm}
 use Rattle.sketch.specs.Sketch.{gridBytes, allCells}
-use Rattle.sketch.specs.Refusals.{refuseGrid, refuseSketch, refuseUnsound, sketchVerdict}
+use Rattle.sketch.specs.Refusals.{refuseGrid, refuseSketch, refuseUnsound, sketchVerdict, numbersVerdict}
 use Rattle.sketch.specs.Workers.{Ready}
 use Rattle.store_blocks.specs.Blocks.{blockOf, blocksFrom}
 use Rattle.store_header.specs.Header.{headerOf}
-use Rattle.store_header.specs.Refusals.{lengthVerdict}
 use Rattle.store.specs.Store.{gridBlocks, storeLength, storeOf}
 use Rattle.store.specs.Refusals.{lengthCall, refuseLength, saveVerdict, saveOutcome, saveCall}
 use Rattle.store.specs.Workers.{Sized}
@@ -27,13 +26,13 @@ use Rattle.sketch.proofs.ReadyLaws.{ready-of}
 use Rattle.sketch.proofs.SketchGates.{judged, judged-gate, sketch-gate, unsound-gate}
 
 -- THE EXACT LENGTH
-module _ (k : MicroCm) (v : Verdict) (ok : Bool) (ev : v ≡ lengthVerdict k) (asked : ok ≡ isAccepted v) where
+module _ (k : MicroCm) (v : Verdict) (ok : Bool) (ev : v ≡ numbersVerdict k) (asked : ok ≡ isAccepted v) where
   pub length-refused : not ok ≡ true → record { verdict = v; length = 0 } ≡ lengthCall k
   unfolding lengthCall
   length-refused h = rw (← ev) (ap (λ (n : ℕ). record { verdict = v; length = n }) (sym (refused-leaves v (storeLength k) 0 (turned-back v ok asked h))))
 
   module _ (h : not ok ≡ false) where
-    pub length-good : lengthVerdict k ≡ Accepted
+    pub length-good : numbersVerdict k ≡ Accepted
     length-good = sym ev ∙ let-pass v ok asked h
 
     pub length-told : (size n : ℕ) → Sized k size → n ≡ 512 * (1 + (size + 503) / 504) → record { verdict = v; length = n } ≡ lengthCall k
@@ -68,7 +67,7 @@ module _ (k : MicroCm) (g store : List ℕ) where
     save-refused h = unsaved v (turned-back v ok asked h) (gate-shut (refuseSketch k g) (sketch-gate k g) (refuseUnsound k g (allCells k) (refuseLength k store Accepted)) v ev (turned-back v ok asked h))
 
     module _ (h : not ok ≡ false) where
-      pub save-good : lengthVerdict k ≡ Accepted
+      pub save-good : numbersVerdict k ≡ Accepted
       save-good = gate-passed (judged k) (judged-gate k) (refuseGrid k g Accepted) (sym ev ∙ let-pass v ok asked h) .0
 
       pub save-ready : Ready k (length g)

@@ -12,7 +12,7 @@ use Rattle.sketch.specs.Sketch.{cellsOf, gridBytes}
 use Rattle.sketch.proofs.SettingsLaws.{GoodSettings, good-settings}
 use Rattle.store_header.specs.Header.{epochOf}
 use Rattle.clock.specs.Clock.{readingOf}
-use Rattle.store_header.specs.Refusals.{lengthVerdict}
+use Rattle.sketch.specs.Refusals.{numbersVerdict}
 use Rattle.store.specs.Store.{gridBlocks}
 use Rattle.store_header.proofs.HeaderLaws.{Fits}
 use Rattle.refusal.proofs.GateLaws.{gate-passed}
@@ -24,7 +24,7 @@ pub record Ranged (k : MicroCm) : Type 0 where
   pub reading : readingOf (k .clock) < 2 ^ 64
   pub state : k .rounding .state < 2 ^ 64
 
-module _ (k : MicroCm) (good : lengthVerdict k ≡ Accepted) where
+module _ (k : MicroCm) (good : numbersVerdict k ≡ Accepted) where
   pub settings-good : GoodSettings (k .rows) (k .cols) (k .params) (k .clock)
   settings-good = good-settings (k .rows) (k .cols) (k .params) (k .clock) (gate-passed (settingsOf k) (settings-gate k) (refuseState (k .rounding .state) Accepted) good .0)
 
@@ -34,9 +34,9 @@ module _ (k : MicroCm) (good : lengthVerdict k ≡ Accepted) where
       record {
         rows = omega (arith, s .grid .rows-high);
         cols = omega (arith, s .grid .cols-high);
-        t = omega (arith, s .t-high);
-        c = omega (arith, s .c-high);
-        length = omega (arith, s .length-high);
+        t = omega (arith, s .fit .t-high);
+        c = omega (arith, s .fit .c-high);
+        length = omega (arith, s .timed .short);
         epoch = r .epoch;
         reading = r .reading;
         state = r .state;
@@ -48,7 +48,7 @@ module _ (k : MicroCm) (good : lengthVerdict k ≡ Accepted) where
   -- at the most 128 rows of 65,536 cells of 4,104 bytes
   pub grid-limit : gridBytes k ≤ 34426847232
   grid-limit =
-      let depth : depthOf (k .params .t) ≤ 4104 = omega (arith, settings-good .t-high) in
+      let depth : depthOf (k .params .t) ≤ 4104 = omega (arith, settings-good .fit .t-high) in
       mul-le-mul cells-limit depth
 
   pub blocks-few : 1 + gridBlocks k ≤ 2 ^ 32

@@ -14,10 +14,9 @@ use Rattle.refusal.specs.declared.Verdict.the-variants.{Accepted, Refused}
 use Rattle.refusal.proofs.VerdictLaws.{not-refused}
 use Rattle.sketch.specs.declared.MicroCm.{MicroCm}
 use Rattle.sketch.specs.Sketch.{gridBytes, allCells}
-use Rattle.sketch.specs.Refusals.{refuseSketch, refuseUnsound, noSketch, sketchOutcome, undrawn}
+use Rattle.sketch.specs.Refusals.{refuseSketch, refuseUnsound, noSketch, sketchOutcome, undrawn, numbersVerdict}
 use Rattle.store_blocks.specs.Blocks.{filled, blockOf, blocksFrom, blockPasses, blocksPass, payloadsOf, carried}
 use Rattle.store_header.specs.Header.{headerOf}
-use Rattle.store_header.specs.Refusals.{lengthVerdict}
 use Rattle.store.specs.Store.{storeOf, gridBlocks}
 use Rattle.store.specs.Refusals.{headerPayload, refuseLength, loadVerdict, loadCall, saveVerdict, saveOutcome, saveCall}
 use Rattle.store_blocks.proofs.FillLaws.{Small, small-take, small-drop, filled-full, behind-zero, cut-alike}
@@ -33,7 +32,7 @@ use Rattle.store.proofs.LoadLaws.{sketchOf, gridOf, Loadable, accepted-
 
 -- SAVE, THEN LOAD
 record Saveable (k : MicroCm) (g : List ℕ) : Type 0 where
-  good : lengthVerdict k ≡ Accepted
+  good : numbersVerdict k ≡ Accepted
   room : length g ≡ gridBytes k
   sound : refuseUnsound k g (allCells k) Accepted ≡ Accepted
 

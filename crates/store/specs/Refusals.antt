@@ -10,16 +10,16 @@ use Rattle.refusal.specs.Refusals.{whenAccepted, andThen}
 use Rattle.refusal.specs.Causes.{Cause, cause, refuseBy}
 use Rattle.sketch.specs.declared.MicroCm.{MicroCm}
 use Rattle.sketch.specs.Sketch.{gridBytes, allCells}
-use Rattle.sketch.specs.Refusals.{refuseGrid, refuseSketch, refuseUnsound, SketchOutcome, sketchCall, world, noSketch}
+use Rattle.sketch.specs.Refusals.{refuseGrid, refuseSketch, refuseUnsound, SketchOutcome, sketchCall, world, noSketch, numbersVerdict}
 use Rattle.store.specs.declared.LengthAnswer.{LengthAnswer}
 use Rattle.store_blocks.specs.Blocks.{blockBytes, blocksPass, payloadOf, allZero, carried}
 use Rattle.store_header.specs.Header.{sketchIn}
-use Rattle.store_header.specs.Refusals.{lengthVerdict, headerVerdict}
+use Rattle.store_header.specs.Refusals.{headerVerdict}
 use Rattle.store.specs.Store.{storeLength, storeOf}
 
 -- THE EXACT LENGTH of a sketch's store
 unfoldable pub lengthCall : MicroCm → LengthAnswer
-lengthCall k = record { verdict = lengthVerdict k; length = whenAccepted (lengthVerdict k) (storeLength k) 0 }
+lengthCall k = record { verdict = numbersVerdict k; length = whenAccepted (numbersVerdict k) (storeLength k) 0 }
 
 -- 16: a store that is not the exact length
 abbrev pub otherLength : MicroCm → List ℕ → Cause

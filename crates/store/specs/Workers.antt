@@ -4,7 +4,7 @@ use mathlib.Core.Path.{_≡_}
 use Rattle.refusal.specs.declared.Verdict.the-variants.{Accepted}
 use Rattle.sketch.specs.declared.MicroCm.{MicroCm}
 use Rattle.sketch.specs.Sketch.{gridBytes}
-use Rattle.store_header.specs.Refusals.{lengthVerdict}
+use Rattle.sketch.specs.Refusals.{numbersVerdict}
 use Rattle.store.specs.Store.{storeLength}
 
 -- the bytes of a judged sketch's grid: at the most 128 rows of 65,536 cells of 4,104 bytes
@@ -15,5 +15,5 @@ pub record Sized (k : MicroCm) (size : ℕ) : Type 0 where
 
 -- a store of so many bytes is as long as the judged sketch's must be
 pub record Stored (k : MicroCm) (size : ℕ) : Type 0 where
-  pub good : lengthVerdict k ≡ Accepted
+  pub good : numbersVerdict k ≡ Accepted
   pub exact : size ≡ storeLength k

@@ -10,14 +10,13 @@ ghost use Rattle.laws.specs.Parts.{part};
 ghost use Rattle.refusal.specs.declared.Verdict.the-variants.{Accepted};
 ghost use Rattle.cell.specs.Cell.{depthOf, soundOf};
 ghost use Rattle.sketch.specs.Sketch.{allCells};
-ghost use Rattle.sketch.specs.Refusals.{refuseUnsound};
+ghost use Rattle.sketch.specs.Refusals.{refuseUnsound, numbersVerdict};
 ghost use Rattle.store_blocks.specs.Blocks.{carried};
-ghost use Rattle.store_header.specs.Refusals.{lengthVerdict};
 ghost use Rattle.store.specs.Refusals.{refuseBlocks, gridIn, gridVerdict};
 ghost use Rattle.store.specs.Workers.{Sized, Stored};
 
 pub fn grid_bytes(sketch: MicroCm) -> usize
-    requires { ⌜ lengthVerdict sketch ≡ Accepted ⌝ }
+    requires { ⌜ numbersVerdict sketch ≡ Accepted ⌝ }
     ensures { λ r. ⌜ Sized sketch r ⌝ }
 {
     let params = sketch.params;
@@ -35,7 +34,7 @@ pub fn store_bytes(size: usize) -> usize
 // Whether the cell that the store carries from `at` on is sound. Its zoom and its shutter stand together behind its pixels,
 // and no other byte of it is read.
 fn cell_sound(sketch: MicroCm, store: &[u8], at: usize) -> bool
-    requires { ⌜ (lengthVerdict sketch ≡ Accepted) × (at + depthOf (sketch .params .t) ≤ 504 * (length (now store) / 512 - 1)) ⌝ }
+    requires { ⌜ (numbersVerdict sketch ≡ Accepted) × (at + depthOf (sketch .params .t) ≤ 504 * (length (now store) / 512 - 1)) ⌝ }
     ensures { λ r. ⌜ r ≡ soundOf (sketch .params .t) (sketch .params .c) (part at (depthOf (sketch .params .t)) (carried (now (store .entry)))) ⌝ }
 {
     let params = sketch.params;
@@ -83,7 +82,7 @@ pub fn whole(store: &[u8]) -> Verdict
 
 // 16, 18, 6, 14: what is left to judge once the header has given a sketch.
 pub fn behind_header(sketch: MicroCm, grid: &[u8], store: &[u8]) -> Verdict
-    requires { ⌜ lengthVerdict sketch ≡ Accepted ⌝ }
+    requires { ⌜ numbersVerdict sketch ≡ Accepted ⌝ }
     ensures { λ r. ⌜ r ≡ gridVerdict sketch (now (grid .entry)) (now (store .entry)) ⌝ }
 {
     let size = grid_bytes(sketch);

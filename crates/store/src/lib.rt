@@ -28,7 +28,7 @@ pub struct LengthAnswer {
 pub fn store_length(sketch: MicroCm) -> LengthAnswer
     ensures { λ r. ⌜ r ≡ lengthCall sketch ⌝ }
 {
-    let verdict = store_header::judge::settings(sketch);
+    let verdict = sketch_judging::judge::numbers(sketch);
     if !verdict.accepted() {
         return LengthAnswer { verdict, length: 0 };
     }

@@ -1,4 +1,4 @@
--- The ways through the judge of a sketch's numbers and the header's answer: each way out is what its definition gives there.
+-- The ways through the header's answer: each way out is what its definition gives there.
 use Prim.Native.Nat.{ℕ, _^_}
 use mathlib.Core.Path.{_≡_, refl, sym, ap, _∙_}
 use mathlib.Core.Bool.{Bool, true, false, not}
@@ -14,26 +14,11 @@ use Rattle.refusal.proofs.GateLaws.{gate-open, gate-shut}
 use Rattle.rounding.specs.Refusals.{refuseState}
 use Rattle.clock.specs.Clock.{lengthOf}
 use Rattle.sketch.specs.declared.MicroCm.{MicroCm}
-use Rattle.sketch.specs.Refusals.{gridFits}
+use Rattle.sketch.specs.Refusals.{gridFits, numbersVerdict}
 use Rattle.sketch.proofs.SketchGates.{settingsOf, settings-gate}
 use Rattle.store_header.specs.declared.Header.the-variants.{Sketch, Refused}
 use Rattle.store_header.specs.Header.{sketchIn}
-use Rattle.store_header.specs.Refusals.{lengthVerdict, wrongForm, headerVerdict, headerIn}
-
--- THE SETTINGS, 1 to 5
-module _ (k : MicroCm) (v : Verdict) (ok : Bool) (ev : v ≡ settingsOf k Accepted) (asked : ok ≡ isAccepted v) where
-  pub settings-refused : not ok ≡ true → v ≡ lengthVerdict k
-  settings-refused h = sym (gate-shut (settingsOf k) (settings-gate k) (refuseState (k .rounding .state) Accepted) v ev (turned-back v ok asked h))
-
-  module _ (h : not ok ≡ false) where
-    past : lengthVerdict k ≡ refuseState (k .rounding .state) Accepted
-    past = gate-open (settingsOf k) (settings-gate k) (refuseState (k .rounding .state) Accepted) (sym ev ∙ let-pass v ok asked h)
-
-    pub state-none : k .rounding .state ≡ 0 → verdict.Refused 5 ≡ lengthVerdict k
-    state-none e = sym (past ∙ rw (eq-eqb _ _ e))
-
-    pub settings-pass : (k .rounding .state ≡ 0 → ⊥) → Accepted ≡ lengthVerdict k
-    settings-pass n = sym (past ∙ rw (ne-eqb _ _ n))
+use Rattle.store_header.specs.Refusals.{wrongForm, headerVerdict, headerIn}
 
 -- THE HEADER'S ANSWER
 module _ (p : List ℕ) (wrong : Bool) (ew : wrong ≡ wrongForm p) where
@@ -41,9 +26,9 @@ module _ (p : List ℕ) (wrong : Bool) (ew : wrong ≡ wrongForm p) where
   unfolding headerIn
   form-told h = rw (← ew, h)
 
-  module _ (h : wrong ≡ false) (k : MicroCm) (ek : k ≡ sketchIn p) (v : Verdict) (ok : Bool) (ev : v ≡ lengthVerdict k) (asked : ok ≡ isAccepted v) where
+  module _ (h : wrong ≡ false) (k : MicroCm) (ek : k ≡ sketchIn p) (v : Verdict) (ok : Bool) (ev : v ≡ numbersVerdict k) (asked : ok ≡ isAccepted v) where
     judged-so : headerVerdict p ≡ v
-    judged-so = rw (← ew, h) (ap lengthVerdict (sym ek) ∙ sym ev)
+    judged-so = rw (← ew, h) (ap numbersVerdict (sym ek) ∙ sym ev)
 
     pub number-told : not ok ≡ true → (n : ℕ) → n ≡ numberOf v → Refused n ≡ headerIn p
     unfolding headerIn

@@ -8,17 +8,12 @@ use Rattle.refusal.specs.declared.Verdict.{Verdict}
 use Rattle.refusal.specs.declared.Verdict.the-variants as verdict
 use Rattle.refusal.specs.Refusals.{numberOf, whenAccepted}
 use Rattle.refusal.specs.Causes.{Cause, cause, refuseBy}
-use Rattle.rounding.specs.Refusals.{refuseState}
 use Rattle.sketch.specs.declared.MicroCm.{MicroCm}
-use Rattle.sketch.specs.Refusals.{refuseSettings}
+use Rattle.sketch.specs.Refusals.{numbersVerdict}
 use Rattle.store_blocks.specs.Blocks.{allZero}
 use Rattle.store_header.specs.declared.Header.{Header}
 use Rattle.store_header.specs.declared.Header.the-variants.{Sketch, Refused}
 use Rattle.store_header.specs.Header.{fieldOf, sketchIn}
-
--- 1 to 5: all that a store's length and its header depend on
-abbrev pub lengthVerdict : MicroCm → Verdict
-lengthVerdict k = refuseSettings (k .rows) (k .cols) (k .params) (k .clock) (refuseState (k .rounding .state) verdict.Accepted)
 
 -- 18 over block 0: the form, the kind of clock, a byte that must be 0, the epoch of a count clock
 unfoldable pub wrongForm : List ℕ → Bool
@@ -30,7 +25,7 @@ badForm p = cause 18 (wrongForm p)
 
 -- the header's answer: 18, then 1 to 5
 abbrev pub headerVerdict : List ℕ → Verdict
-headerVerdict p = refuseBy (badForm p) (lengthVerdict (sketchIn p))
+headerVerdict p = refuseBy (badForm p) (numbersVerdict (sketchIn p))
 
 unfoldable pub headerIn : List ℕ → Header
 headerIn p = whenAccepted (headerVerdict p) (Sketch (sketchIn p)) (Refused (numberOf (headerVerdict p)))

@@ -1,6 +1,5 @@
 // The header, payload of block 0: each field where document 01 puts it, the rest 0.
 use crate::Header;
-use crate::judge;
 use cell::MicroParams;
 use clock::SubWindowClock;
 use rounding::Rounding;
@@ -168,7 +167,7 @@ pub fn header_in(payload: &[u8]) -> Header
         return Header::Refused(18);
     }
     let sketch = sketch_in(payload);
-    let verdict = judge::settings(sketch);
+    let verdict = sketch_judging::judge::numbers(sketch);
     if !verdict.accepted() {
         return Header::Refused(verdict.number());
     }

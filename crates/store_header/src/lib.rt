@@ -1,6 +1,5 @@
 // Document 01, "Audit and block store": the header of a store, the sketch in block 0.
 pub mod fields;
-pub mod judge;
 
 use sketch::MicroCm;
 ghost use mathlib.Core.Path.{_≡_};

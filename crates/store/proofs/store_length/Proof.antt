@@ -4,8 +4,8 @@ use borrow.Author.Needs.{needs}
 use Rattle.store.proofs.store_length.Statement.{statement}
 use Rattle.store.proofs.store_length.Tie as tie
 
-settings-requires : tie.Need-settings-requires
-settings-requires c κs = search needs
+numbers-requires : tie.Need-numbers-requires
+numbers-requires c κs = search needs
 
 accepted-requires : tie.Need-accepted-requires
 accepted-requires c κs = search needs
@@ -26,7 +26,7 @@ pub store-length-spec : {M : Type 1} → statement M
 store-length-spec =
     tie.close
     (tie.spec
-    settings-requires
+    numbers-requires
     accepted-requires
     returns
     grid-bytes-requires

@@ -4,8 +4,8 @@ use borrow.Author.Needs.{needs}
 use Rattle.codes_setting.proofs.judge.setting.Statement.{statement}
 use Rattle.codes_setting.proofs.judge.setting.Tie as tie
 
-settings-requires : tie.Need-settings-requires
-settings-requires c κs = search needs
+numbers-requires : tie.Need-numbers-requires
+numbers-requires c κs = search needs
 
 accepted-requires : tie.Need-accepted-requires
 accepted-requires c κs = search needs
@@ -29,7 +29,7 @@ pub setting-spec : {M : Type 1} → statement M
 setting-spec =
     tie.close
     (tie.spec
-    settings-requires
+    numbers-requires
     accepted-requires
     returns
     codes-fit-requires

@@ -13,8 +13,8 @@ returns c = search (form-told, needs)
 sketch-in-requires : tie.Need-sketch-in-requires
 sketch-in-requires c κs = search needs
 
-settings-requires : tie.Need-settings-requires
-settings-requires c κs = search needs
+numbers-requires : tie.Need-numbers-requires
+numbers-requires c κs = search needs
 
 accepted-requires : tie.Need-accepted-requires
 accepted-requires c κs = search needs
@@ -35,7 +35,7 @@ header-in-spec =
     wrong-form-requires
     returns
     sketch-in-requires
-    settings-requires
+    numbers-requires
     accepted-requires
     number-requires
     returns-2
