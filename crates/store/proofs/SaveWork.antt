@@ -17,7 +17,7 @@ use Rattle.sketch.specs.Refusals.{refuseGrid, refuseSketch, refuseUnsound, sket
 use Rattle.sketch.specs.Workers.{Ready}
 use Rattle.store_blocks.specs.Blocks.{blockOf, blocksFrom}
 use Rattle.store_header.specs.Header.{headerOf}
-use Rattle.store.specs.Store.{gridBlocks, storeLength, storeOf}
+use Rattle.store.specs.Store.{gridBlocks, storeLength, storeOf, storeWith}
 use Rattle.store.specs.Refusals.{lengthCall, refuseLength, saveVerdict, saveOutcome, saveCall}
 use Rattle.store.specs.Workers.{Sized}
 use Rattle.store_blocks.proofs.BlockLaws.{block-length}
@@ -43,7 +43,7 @@ module _ (k : MicroCm) (v : Verdict) (ok : Bool) (ev : v ≡ numbersVerdict k) (
 pub store-written : (k : MicroCm) (g b u v header : List ℕ) → length b ≡ storeLength k → header ≡ headerOf k → u ≡ blockOf 0 header
     → v ≡ blocksFrom 1 (length (take (length (u ++ drop 512 b) - 512) (drop 512 (u ++ drop 512 b))) / 512) g
     → take 512 (u ++ drop 512 b) ++ (v ++ drop (length (u ++ drop 512 b) - 512) (drop 512 (u ++ drop 512 b))) ≡ storeOf k g
-unfolding storeOf
+unfolding storeWith
 store-written k g b u v header long eh eu ev =
     let first : u ≡ blockOf 0 (headerOf k) = eu ∙ ap (blockOf 0) eh in
     let lu : length u ≡ 512 = ap length first ∙ block-length 0 (headerOf k) in

@@ -10,15 +10,15 @@ use Rattle.laws.proofs.ByteLaws.{bytes-small}
 use Rattle.clock.specs.Clock.{lengthOf, readingOf}
 use Rattle.sketch.specs.declared.MicroCm.{MicroCm}
 use Rattle.store_blocks.specs.Blocks.{filled, blockOf, blocksFrom, blocksPass, carried}
-use Rattle.store_header.specs.Header.{headerOf, kindOf, epochOf}
-use Rattle.store.specs.Store.{gridBlocks, storeLength, storeOf}
+use Rattle.store_header.specs.Header.{headerOf, kindOf, epochOf, headerWith}
+use Rattle.store.specs.Store.{gridBlocks, storeLength, storeOf, storeWith}
 use Rattle.store.specs.Refusals.{headerPayload}
 use Rattle.store_blocks.proofs.FillLaws.{Small, small-append}
 use Rattle.store_blocks.proofs.BlockLaws.{block-length, block-payload, block-passes}
 use Rattle.store_blocks.proofs.ChainLaws.{from-length, from-passes, from-payloads, first-taken, first-dropped, pass-suc}
 
 header-small : (k : MicroCm) → Small (headerOf k)
-unfolding headerOf
+unfolding headerWith
 header-small k =
     next 4 1 _ (next 4 (k .rows) _ (next 4 (k .cols) _ (next 4 (k .params .t) _ (next 4 (k .params .c) _ (next 4 (kindOf (k .clock)) _
     (next 8 (lengthOf (k .clock)) _ (next 8 (epochOf (k .clock)) _ (next 8 (readingOf (k .clock)) _ (bytes-small 8 (k .rounding .state))))))))))
@@ -28,16 +28,16 @@ header-small k =
 
 module _ (k : MicroCm) (g : List ℕ) where
   pub store-length : length (storeOf k g) ≡ storeLength k
-  unfolding storeOf
+  unfolding storeWith
   store-length =
       length-append (blockOf 0 (headerOf k)) (blocksFrom 1 (gridBlocks k) g) ∙ rw (block-length 0 (headerOf k), from-length 1 (gridBlocks k) g) (omega arith)
 
   store-first : take 512 (storeOf k g) ≡ blockOf 0 (headerOf k)
-  unfolding storeOf
+  unfolding storeWith
   store-first = first-taken 0 (headerOf k) (blocksFrom 1 (gridBlocks k) g)
 
   store-rest : drop 512 (storeOf k g) ≡ blocksFrom 1 (gridBlocks k) g
-  unfolding storeOf
+  unfolding storeWith
   store-rest = first-dropped 0 (headerOf k) (blocksFrom 1 (gridBlocks k) g)
 
   store-count : length (storeOf k g) / 512 ≡ suc (gridBlocks k)

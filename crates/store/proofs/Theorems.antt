@@ -17,7 +17,7 @@ use Rattle.sketch.specs.Sketch.{gridBytes, allCells}
 use Rattle.sketch.specs.Refusals.{refuseSketch, refuseUnsound, noSketch, sketchOutcome, undrawn, numbersVerdict}
 use Rattle.store_blocks.specs.Blocks.{filled, blockOf, blocksFrom, blockPasses, blocksPass, payloadsOf, carried}
 use Rattle.store_header.specs.Header.{headerOf}
-use Rattle.store.specs.Store.{storeOf, gridBlocks}
+use Rattle.store.specs.Store.{blocksFor, storeOf, gridBlocks, storeWith}
 use Rattle.store.specs.Refusals.{headerPayload, refuseLength, loadVerdict, loadCall, saveVerdict, saveOutcome, saveCall}
 use Rattle.store_blocks.proofs.FillLaws.{Small, small-take, small-drop, filled-full, behind-zero, cut-alike}
 use Rattle.store_blocks.proofs.BlockLaws.{block-same, block-back}
@@ -67,7 +67,7 @@ module _ (k : MicroCm) (g g' store : List ℕ) (range : Ranged k) (small : Small
     good = rw sketch-back (able .good);
     kept = record {
       exact = rw sketch-back (store-length k g);
-      fill = rw (sketch-back, ← able .room, store-carries k g) (behind-zero (504 * gridBlocks k) g);
+      fill = rw (sketch-back, store-carries k g, ← able .room) (behind-zero (504 * blocksFor (length g)) g);
       room = rw sketch-back (same ∙ able .room);
       sound = rw (sketch-back, grid-taken) (able .sound);
     };
@@ -135,7 +135,7 @@ module _ (g store : List ℕ) (loaded : loadVerdict g store ≡ Accepted) where
         ∙ rw carried-is (blocks-back 1 (gridBlocks (sketchOf store)) (drop 512 store) rest-long (all-pass .1) (small-drop 512 store small))
 
     store-same : storeOf (sketchOf store) (gridOf store) ≡ store
-    unfolding storeOf
+    unfolding storeWith
     store-same = ap₂ _++_ header-same grid-same ∙ take-append-drop 512 store
 
     pub load-save : (buffer : List ℕ) → length buffer ≡ length store → saveCall (sketchOf store) (gridOf store) buffer ≡ saveOutcome Accepted store

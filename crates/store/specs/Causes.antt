@@ -3,7 +3,7 @@ use Prim.Native.Nat.{ℕ}
 use mathlib.Core.List.{List, [], _∷_, _++_}
 use Rattle.refusal.specs.Causes.{Cause, Told, ToldInLoadOrder}
 use Rattle.sketch.specs.declared.MicroCm.{MicroCm}
-use Rattle.sketch.specs.Sketch.{allCells}
+use Rattle.sketch.specs.Sketch.{gridBytes, allCells}
 use Rattle.sketch.specs.Refusals.{badGrid, badCells}
 use Rattle.sketch.specs.Causes.{sketchCauses}
 use Rattle.store_header.specs.Header.{sketchIn}
@@ -12,11 +12,11 @@ use Rattle.store.specs.Refusals.{otherLength, noBlocks, badBlock, badFil
 
 -- SAVE: 1 to 6, 14 over all cells, 16
 abbrev pub saveCauses : MicroCm → List ℕ → List ℕ → List Cause
-saveCauses k g store = sketchCauses k g ++ badCells k g (allCells k) ∷ otherLength k store ∷ []
+saveCauses k g store = sketchCauses k g ++ badCells k g (allCells k) ∷ otherLength (gridBytes k) store ∷ []
 
 -- of a load, behind the header: 16, 18, 6, 14 over the stored cells
 abbrev pub gridCauses : MicroCm → List ℕ → List ℕ → List Cause
-gridCauses k g store = otherLength k store ∷ badFill k store ∷ badGrid k g ∷ badCells k (gridIn k store) (allCells k) ∷ []
+gridCauses k g store = otherLength (gridBytes k) store ∷ badFill (gridBytes k) store ∷ badGrid k g ∷ badCells k (gridIn k store) (allCells k) ∷ []
 
 -- LOAD: 16, 17; the header's 18, 1 to 5; 16, 18, 6, 14
 abbrev pub loadCauses : List ℕ → List ℕ → List Cause

@@ -15,18 +15,18 @@ use Rattle.store.specs.declared.LengthAnswer.{LengthAnswer}
 use Rattle.store_blocks.specs.Blocks.{blockBytes, blocksPass, payloadOf, allZero, carried}
 use Rattle.store_header.specs.Header.{sketchIn}
 use Rattle.store_header.specs.Refusals.{headerVerdict}
-use Rattle.store.specs.Store.{storeLength, storeOf}
+use Rattle.store.specs.Store.{storeBytes, storeLength, storeOf}
 
 -- THE EXACT LENGTH of a sketch's store
 unfoldable pub lengthCall : MicroCm → LengthAnswer
 lengthCall k = record { verdict = numbersVerdict k; length = whenAccepted (numbersVerdict k) (storeLength k) 0 }
 
--- 16: a store that is not the exact length
-abbrev pub otherLength : MicroCm → List ℕ → Cause
-otherLength k store = cause 16 (not (eqb (length store) (storeLength k)))
+-- 16: a store that is not the exact length for a grid of so many bytes
+abbrev pub otherLength : ℕ → List ℕ → Cause
+otherLength size store = cause 16 (not (eqb (length store) (storeBytes size)))
 
 abbrev pub refuseLength : MicroCm → List ℕ → Verdict → Verdict
-refuseLength k store rest = refuseBy (otherLength k store) rest
+refuseLength k store rest = refuseBy (otherLength (gridBytes k) store) rest
 
 -- SAVE: 1 to 6, 14 over the whole grid, 16
 abbrev pub saveVerdict : MicroCm → List ℕ → List ℕ → Verdict
@@ -59,14 +59,14 @@ abbrev pub badBlock : List ℕ → Cause
 badBlock store = cause 17 (not (blocksPass 0 (length store / blockBytes) store))
 
 -- 18: a byte behind the grid that is not 0
-abbrev pub badFill : MicroCm → List ℕ → Cause
-badFill k store = cause 18 (not (allZero (drop (gridBytes k) (carried store))))
+abbrev pub badFill : ℕ → List ℕ → Cause
+badFill size store = cause 18 (not (allZero (drop size (carried store))))
 
 -- 16 for the exact length, 18 for the fill, 6 for the grid lent, 14 over the stored cells
 abbrev pub gridVerdict : MicroCm → List ℕ → List ℕ → Verdict
 gridVerdict k g store =
     refuseLength k store
-    (refuseBy (badFill k store)
+    (refuseBy (badFill (gridBytes k) store)
     (refuseGrid k g (refuseUnsound k (gridIn k store) (allCells k) verdict.Accepted)))
 
 -- 16 for an empty store or no whole number of blocks, 17 over every block

@@ -4,16 +4,27 @@ use mathlib.Core.List.{List, _++_}
 use Rattle.sketch.specs.declared.MicroCm.{MicroCm}
 use Rattle.sketch.specs.Sketch.{gridBytes}
 use Rattle.store_blocks.specs.Blocks.{blockBytes, payloadBytes, blockOf, blocksFrom}
-use Rattle.store_header.specs.Header.{headerOf}
+use Rattle.store_header.specs.Header.{formNumber, headerWith}
 
+-- OF ANY FORM, and of a grid of so many bytes
 -- grid bytes divided by 504, rounded up
-abbrev pub gridBlocks : MicroCm → ℕ
-gridBlocks k = (gridBytes k + 503) / payloadBytes
+abbrev pub blocksFor : ℕ → ℕ
+blocksFor size = (size + 503) / payloadBytes
 
 -- 512 × (1 + that)
-abbrev pub storeLength : MicroCm → ℕ
-storeLength k = blockBytes * (1 + gridBlocks k)
+abbrev pub storeBytes : ℕ → ℕ
+storeBytes size = blockBytes * (1 + blocksFor size)
 
 -- the header's block, and from block 1 on the grid, zero-filled
-unfoldable pub storeOf : MicroCm → List ℕ → List ℕ
-storeOf k g = blockOf 0 (headerOf k) ++ blocksFrom 1 (gridBlocks k) g
+unfoldable pub storeWith : ℕ → ℕ → MicroCm → List ℕ → List ℕ
+storeWith form size k g = blockOf 0 (headerWith form k) ++ blocksFrom 1 (blocksFor size) g
+
+-- OF THE FORM THAT IS SAVED AND LOADED, with a sketch's own grid
+abbrev pub gridBlocks : MicroCm → ℕ
+gridBlocks k = blocksFor (gridBytes k)
+
+abbrev pub storeLength : MicroCm → ℕ
+storeLength k = storeBytes (gridBytes k)
+
+abbrev pub storeOf : MicroCm → List ℕ → List ℕ
+storeOf k g = storeWith formNumber (gridBytes k) k g

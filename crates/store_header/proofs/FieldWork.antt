@@ -18,8 +18,8 @@ use Rattle.clock.specs.declared.SubWindowClock.the-variants.{CountBased, TimeBa
 use Rattle.clock.specs.Clock.{lengthOf, readingOf}
 use Rattle.sketch.specs.declared.MicroCm.{MicroCm}
 use Rattle.store_blocks.specs.Blocks.{allZero}
-use Rattle.store_header.specs.Header.{kindOf, epochOf, headerOf, fieldOf, clockIn, sketchIn}
-use Rattle.store_header.specs.Refusals.{wrongForm}
+use Rattle.store_header.specs.Header.{kindOf, epochOf, headerOf, fieldOf, clockIn, sketchIn, headerWith}
+use Rattle.store_header.specs.Refusals.{wrongForm, otherForm}
 use Rattle.store_header.specs.Workers.{Put}
 
 module _ (at width : ℕ) (b : List ℕ) where
@@ -44,7 +44,7 @@ pub settings-written : (k : MicroCm) (kind : ℕ) (b₀ b₁ b₂ b₃ b₄ b₅
     → Put 4 4 (k .rows) b₁ b₂
     → Put 0 4 1 b₀ b₁
     → b₆ ≡ take 24 (headerOf k)
-unfolding headerOf bytesOf
+unfolding headerWith bytesOf
 settings-written k kind b₀ b₁ b₂ b₃ b₄ b₅ b₆ ek long e₆ e₅ e₄ e₃ e₂ e₁ =
     sym (take-all 24 b₆ (omega arith)) ∙ e₆ .is ∙ rw (e₅ .is, e₄ .is, e₃ .is, e₂ .is, e₁ .is, ek)
 
@@ -55,13 +55,13 @@ pub state-written : (k : MicroCm) (len epoch reading : ℕ) (b₀ b₁ b₂ b₃
     → Put 8 8 epoch b₁ b₂
     → Put 0 8 len b₀ b₁
     → b₄ ≡ drop 24 (headerOf k)
-unfolding headerOf bytesOf
+unfolding headerWith bytesOf
 state-written k len epoch reading b₀ b₁ b₂ b₃ b₄ el ee er long e₄ e₃ e₂ e₁ =
     sym (take-all 32 b₄ (omega arith)) ∙ e₄ .is ∙ rw (e₃ .is, e₂ .is, e₁ .is, er, ee, el)
 
 pub header-written : (k : MicroCm) (b u v : List ℕ) → length b ≡ 56 → u ≡ take 24 (headerOf k) → v ≡ drop 24 (headerOf k)
     → take 24 (u ++ drop 24 b) ++ (v ++ drop 32 (drop 24 (u ++ drop 24 b))) ≡ headerOf k
-unfolding headerOf bytesOf
+unfolding headerWith bytesOf
 header-written k b u v long eu ev =
     let lu : length u ≡ 24 = ap length eu in
     let short : length (drop 24 b) ≤ 32 = simp length-drop (omega arith) in
@@ -71,17 +71,17 @@ header-written k b u v long eu ev =
 -- WHAT IS JUDGED OF A HEADER, in the order of the tests
 module _ (p : List ℕ) (form : ℕ) (ef : form ≡ fieldOf 4 0 p) where
   pub form-wrong : (form ≡ 1 → ⊥) → true ≡ wrongForm p
-  unfolding wrongForm
+  unfolding otherForm
   form-wrong h = rw (← ef, ne-eqb _ _ h)
 
   module _ (one : form ≡ 1) (kind : ℕ) (ek : kind ≡ fieldOf 4 20 p) where
     pub kind-wrong : 1 < kind → true ≡ wrongForm p
-    unfolding wrongForm
+    unfolding otherForm
     kind-wrong h = rw (← ef, ← ek, eq-eqb _ _ one, lt-ltb _ _ h)
 
     module _ (low : kind ≤ 1) (long : length p ≡ 504) (clear : Bool) (ec : clear ≡ allZero (part 56 448 p)) where
       judged : wrongForm p ≡ (not clear || (eqb kind 0 && not (eqb (fieldOf 8 32 p) 0)))
-      unfolding wrongForm
+      unfolding otherForm
       judged =
           let rest : allZero (drop 56 p) ≡ clear = ap allZero (sym (take-all 448 (drop 56 p) (simp length-drop (omega arith)))) ∙ sym ec in
           rw (← ef, ← ek, eq-eqb _ _ one, le-ltb _ _ low, rest)

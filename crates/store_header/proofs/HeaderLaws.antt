@@ -17,8 +17,8 @@ use Rattle.clock.specs.declared.SubWindowClock.the-variants.{CountBased, TimeBa
 use Rattle.clock.specs.Clock.{lengthOf, readingOf}
 use Rattle.sketch.specs.declared.MicroCm.{MicroCm}
 use Rattle.store_blocks.specs.Blocks.{filled, allZero}
-use Rattle.store_header.specs.Header.{kindOf, epochOf, headerOf, fieldOf, clockIn, sketchIn}
-use Rattle.store_header.specs.Refusals.{wrongForm}
+use Rattle.store_header.specs.Header.{kindOf, epochOf, headerOf, fieldOf, clockIn, sketchIn, headerWith}
+use Rattle.store_header.specs.Refusals.{wrongForm, otherForm}
 use Rattle.store_blocks.proofs.FillLaws.{Small, small-take, small-drop, filled-is, cut-alike}
 
 -- a sketch whose numbers fit the fields
@@ -55,35 +55,35 @@ module _ (k : MicroCm) where
   written = filled 504 (headerOf k)
 
   kind-read : fieldOf 4 20 written ≡ kindOf (k .clock)
-  unfolding headerOf bytesOf
+  unfolding headerWith bytesOf
   kind-read = number-bytes-small 4 (kindOf (k .clock)) (kind-fits (k .clock))
 
   form-read : fieldOf 4 0 written ≡ 1
-  unfolding headerOf bytesOf
+  unfolding headerWith bytesOf
   form-read = number-bytes-small 4 1 (omega arith)
 
   rest-read : allZero (drop 56 written) ≡ true
-  unfolding headerOf bytesOf allZero
+  unfolding headerWith bytesOf allZero
   rest-read = refl
 
   module _ (fits : Fits k) where
     epoch-read : fieldOf 8 32 written ≡ epochOf (k .clock)
-    unfolding headerOf bytesOf
+    unfolding headerWith bytesOf
     epoch-read = number-bytes-small 8 (epochOf (k .clock)) (fits .epoch)
 
     pub header-form : wrongForm written ≡ false
-    unfolding wrongForm
+    unfolding otherForm
     header-form = rw (form-read, kind-read, epoch-read, rest-read) (kind-right (k .clock))
 
     clock-read : clockIn written ≡ k .clock
-    unfolding headerOf bytesOf
+    unfolding headerWith bytesOf
     clock-read =
         let l : fieldOf 8 24 written ≡ lengthOf (k .clock) = number-bytes-small 8 (lengthOf (k .clock)) (fits .length) in
         let r : fieldOf 8 40 written ≡ readingOf (k .clock) = number-bytes-small 8 (readingOf (k .clock)) (fits .reading) in
         (λ j. clockFrom (eqb (kind-read j) 0) (l j) (epoch-read j) (r j)) ∙ clock-back (k .clock)
 
     pub header-sketch : sketchIn written ≡ k
-    unfolding headerOf bytesOf sketchIn
+    unfolding headerWith bytesOf sketchIn
     header-sketch =
         let rows : fieldOf 4 4 written ≡ k .rows = number-bytes-small 4 (k .rows) (fits .rows) in
         let cols : fieldOf 4 8 written ≡ k .cols = number-bytes-small 4 (k .cols) (fits .cols) in
@@ -126,7 +126,7 @@ module _ (p : List ℕ) where
     epoch : (eqb (fieldOf 4 20 p) 0 && not (eqb (fieldOf 8 32 p) 0)) ≡ false
 
   right-form : wrongForm p ≡ false → Right
-  unfolding wrongForm
+  unfolding otherForm
   right-form e =
       let (abc, d) = neither _ (eqb (fieldOf 4 20 p) 0 && not (eqb (fieldOf 8 32 p) 0)) e in
       let (ab, c) = neither _ (not (allZero (drop 56 p))) abc in
@@ -152,7 +152,7 @@ module _ (p : List ℕ) where
     field-back width at room = bytes-number width (part at width p) (part-length at width p (rw long room)) (small-take width (drop at p) (small-drop at p small))
 
     header-first : headerOf (sketchIn p) ≡ take 56 p
-    unfolding headerOf sketchIn
+    unfolding headerWith sketchIn
     header-first =
         let r = right-form right in
         let counts = eqb (fieldOf 4 20 p) 0 in

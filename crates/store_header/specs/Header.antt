@@ -19,10 +19,18 @@ abbrev pub epochOf : SubWindowClock → ℕ
 epochOf (CountBased length seen) = 0
 epochOf (TimeBased length epoch now) = epoch
 
-unfoldable pub headerOf : MicroCm → List ℕ
-headerOf k =
-    bytesOf 4 1 ++ (bytesOf 4 (k .rows) ++ (bytesOf 4 (k .cols) ++ (bytesOf 4 (k .params .t) ++ (bytesOf 4 (k .params .c) ++ (bytesOf 4 (kindOf (k .clock))
+-- the header of a form, by its number
+unfoldable pub headerWith : ℕ → MicroCm → List ℕ
+headerWith form k =
+    bytesOf 4 form ++ (bytesOf 4 (k .rows) ++ (bytesOf 4 (k .cols) ++ (bytesOf 4 (k .params .t) ++ (bytesOf 4 (k .params .c) ++ (bytesOf 4 (kindOf (k .clock))
     ++ (bytesOf 8 (lengthOf (k .clock)) ++ (bytesOf 8 (epochOf (k .clock)) ++ (bytesOf 8 (readingOf (k .clock)) ++ bytesOf 8 (k .rounding .state)))))))))
+
+-- the form that is saved and loaded
+abbrev pub formNumber : ℕ
+formNumber = 1
+
+abbrev pub headerOf : MicroCm → List ℕ
+headerOf k = headerWith formNumber k
 
 -- READ
 -- a number in a header's payload

@@ -13,12 +13,15 @@ use Rattle.sketch.specs.Refusals.{numbersVerdict}
 use Rattle.store_blocks.specs.Blocks.{allZero}
 use Rattle.store_header.specs.declared.Header.{Header}
 use Rattle.store_header.specs.declared.Header.the-variants.{Sketch, Refused}
-use Rattle.store_header.specs.Header.{fieldOf, sketchIn}
+use Rattle.store_header.specs.Header.{formNumber, fieldOf, sketchIn}
 
 -- 18 over block 0: the form, the kind of clock, a byte that must be 0, the epoch of a count clock
-unfoldable pub wrongForm : List ℕ → Bool
-wrongForm p =
-    not (eqb (fieldOf 4 0 p) 1) || ltb 1 (fieldOf 4 20 p) || not (allZero (drop 56 p)) || (eqb (fieldOf 4 20 p) 0 && not (eqb (fieldOf 8 32 p) 0))
+unfoldable pub otherForm : ℕ → List ℕ → Bool
+otherForm form p =
+    not (eqb (fieldOf 4 0 p) form) || ltb 1 (fieldOf 4 20 p) || not (allZero (drop 56 p)) || (eqb (fieldOf 4 20 p) 0 && not (eqb (fieldOf 8 32 p) 0))
+
+abbrev pub wrongForm : List ℕ → Bool
+wrongForm p = otherForm formNumber p
 
 abbrev pub badForm : List ℕ → Cause
 badForm p = cause 18 (wrongForm p)
