@@ -11,9 +11,9 @@ use edge_values::PlainStart;
 use edge_values::PlainVerdict;
 use service::Service;
 ghost use mathlib.Core.Path.{_≡_};
-ghost use Rattle.sketch.specs.Refusals.{updateCall, updateAtCall, advanceCall, readCall, readWithCall, meanCall, bucketVerdict, highestCall, auditCall, mergeCall};
-ghost use Rattle.service.specs.Service.{startCall};
-ghost use Rattle.edge_values.specs.Edge.{clockOf, sketchOf, paramsOf, startOutcome, startedOf, plainOutcome, changeOf, sketchWith, inPlace, meanOf, highestOf, verdictOf, auditOf, plainReading};
+ghost use Rattle.sketch.specs.Refusals.{readCall, readWithCall, meanCall, bucketVerdict, highestCall, auditCall};
+ghost use Rattle.edge_values.specs.Edge.{sketchOf, startOutcome, plainOutcome, sketchWith, meanOf, highestOf, verdictOf, auditOf, plainReading};
+ghost use Rattle.edge.specs.Calls.{startedWith, updated, updatedAt, advanced, merged, leftInPlace};
 
 // A fresh sketch, and no codes: every byte of the grid is written 0. Any seed will do.
 #[no_mangle]
@@ -28,7 +28,7 @@ pub extern "C" fn microscope_new(
     seed: u64,
     grid: &mut [u8],
 ) -> PlainStart
-    ensures { λ r. ⌜ startOutcome r (now (grid .exit)) ≡ startedOf (startCall rows cols (paramsOf t c) (clockOf kind length epoch epoch) seed (now (grid .entry))) ⌝ }
+    ensures { λ r. ⌜ startOutcome r (now (grid .exit)) ≡ startedWith rows cols t c kind length epoch seed (now (grid .entry)) ⌝ }
 {
     let params = MicroParams { t, c };
     let clock = edge_values::clock(kind, length, epoch, epoch);
@@ -43,7 +43,7 @@ pub extern "C" fn microscope_update(
     key: &[u32],
     grid: &mut [u8],
 ) -> PlainAnswer
-    ensures { λ r. ⌜ plainOutcome r (now (grid .exit)) ≡ changeOf sketch (updateCall (sketchOf sketch) (now (key .entry)) (now (grid .entry))) ⌝ }
+    ensures { λ r. ⌜ plainOutcome r (now (grid .exit)) ≡ updated sketch (now (key .entry)) (now (grid .entry)) ⌝ }
 {
     let settings = edge_values::settings(sketch);
     let mut reading = sketch.reading;
@@ -62,7 +62,8 @@ pub extern "C" fn microscope_update_in_place(
     key: &[u32],
     grid: &mut [u8],
 ) -> PlainChange
-    ensures { λ r. ⌜ plainOutcome (inPlace settings r (now (reading .exit)) (now (state .exit))) (now (grid .exit)) ≡ changeOf (sketchWith settings (now (reading .entry)) (now (state .entry))) (updateCall (sketchOf (sketchWith settings (now (reading .entry)) (now (state .entry)))) (now (key .entry)) (now (grid .entry))) ⌝ }
+    ensures { λ r. ⌜ leftInPlace settings r (now (reading .exit)) (now (state .exit)) (now (grid .exit))
+        ≡ updated (sketchWith settings (now (reading .entry)) (now (state .entry))) (now (key .entry)) (now (grid .entry)) ⌝ }
 {
     let core = edge_values::core_with(settings, *reading, *state);
     let answer = sketch_counting::update(core, &key[..], grid);
@@ -77,7 +78,7 @@ pub extern "C" fn microscope_update_at(
     timestamp: u64,
     grid: &mut [u8],
 ) -> PlainAnswer
-    ensures { λ r. ⌜ plainOutcome r (now (grid .exit)) ≡ changeOf sketch (updateAtCall (sketchOf sketch) (now (key .entry)) timestamp (now (grid .entry))) ⌝ }
+    ensures { λ r. ⌜ plainOutcome r (now (grid .exit)) ≡ updatedAt sketch (now (key .entry)) timestamp (now (grid .entry)) ⌝ }
 {
     let settings = edge_values::settings(sketch);
     let mut reading = sketch.reading;
@@ -104,7 +105,8 @@ pub extern "C" fn microscope_update_at_in_place(
     timestamp: u64,
     grid: &mut [u8],
 ) -> PlainChange
-    ensures { λ r. ⌜ plainOutcome (inPlace settings r (now (reading .exit)) (now (state .exit))) (now (grid .exit)) ≡ changeOf (sketchWith settings (now (reading .entry)) (now (state .entry))) (updateAtCall (sketchOf (sketchWith settings (now (reading .entry)) (now (state .entry)))) (now (key .entry)) timestamp (now (grid .entry))) ⌝ }
+    ensures { λ r. ⌜ leftInPlace settings r (now (reading .exit)) (now (state .exit)) (now (grid .exit))
+        ≡ updatedAt (sketchWith settings (now (reading .entry)) (now (state .entry))) (now (key .entry)) timestamp (now (grid .entry)) ⌝ }
 {
     let core = edge_values::core_with(settings, *reading, *state);
     let answer = sketch_counting::update_at(core, &key[..], timestamp, grid);
@@ -118,7 +120,7 @@ pub extern "C" fn microscope_advance_to(
     timestamp: u64,
     grid: &mut [u8],
 ) -> PlainAnswer
-    ensures { λ r. ⌜ plainOutcome r (now (grid .exit)) ≡ changeOf sketch (advanceCall (sketchOf sketch) timestamp (now (grid .entry))) ⌝ }
+    ensures { λ r. ⌜ plainOutcome r (now (grid .exit)) ≡ advanced sketch timestamp (now (grid .entry)) ⌝ }
 {
     let settings = edge_values::settings(sketch);
     let mut reading = sketch.reading;
@@ -143,7 +145,8 @@ pub extern "C" fn microscope_advance_to_in_place(
     timestamp: u64,
     grid: &mut [u8],
 ) -> PlainChange
-    ensures { λ r. ⌜ plainOutcome (inPlace settings r (now (reading .exit)) (now (state .exit))) (now (grid .exit)) ≡ changeOf (sketchWith settings (now (reading .entry)) (now (state .entry))) (advanceCall (sketchOf (sketchWith settings (now (reading .entry)) (now (state .entry)))) timestamp (now (grid .entry))) ⌝ }
+    ensures { λ r. ⌜ leftInPlace settings r (now (reading .exit)) (now (state .exit)) (now (grid .exit))
+        ≡ advanced (sketchWith settings (now (reading .entry)) (now (state .entry))) timestamp (now (grid .entry)) ⌝ }
 {
     let core = edge_values::core_with(settings, *reading, *state);
     let answer = sketch_counting::advance_to(core, timestamp, grid);
@@ -231,7 +234,7 @@ pub extern "C" fn microscope_merge(
     other: PlainSketch,
     other_grid: &[u8],
 ) -> PlainAnswer
-    ensures { λ r. ⌜ plainOutcome r (now (grid .exit)) ≡ changeOf sketch (mergeCall (sketchOf sketch) (now (grid .entry)) (sketchOf other) (now («other_grid» .entry))) ⌝ }
+    ensures { λ r. ⌜ plainOutcome r (now (grid .exit)) ≡ merged sketch (now (grid .entry)) other (now («other_grid» .entry)) ⌝ }
 {
     let core = edge_values::core(sketch);
     let others = edge_values::core(other);

@@ -5,8 +5,8 @@ use edge_values::PlainSketch;
 use edge_values::PlainWatch;
 use edge_values::PlainWatched;
 ghost use mathlib.Core.Path.{_≡_};
-ghost use Rattle.codes.specs.Refusals.{setCall, askCall};
-ghost use Rattle.edge_values.specs.Edge.{sketchOf, watchOf, plainSet, setOf, plainAsk, askOf};
+ghost use Rattle.edge_values.specs.Edge.{plainSet, plainAsk};
+ghost use Rattle.edge.specs.Calls.{codesSet, codesAsked};
 
 // The codes to watch from now on, in place of those before.
 #[no_mangle]
@@ -18,7 +18,8 @@ pub extern "C" fn microscope_set_codes(
     kept_columns: &mut [u32; 8192],
     kept_limits: &mut [u64; 64],
 ) -> PlainWatched
-    ensures { λ r. ⌜ plainSet r (now («kept_columns» .exit)) (now («kept_limits» .exit)) ≡ setOf (setCall (sketchOf sketch) (watchOf watch) (now (columns .entry)) (now (limits .entry)) (now («kept_columns» .entry)) (now («kept_limits» .entry))) ⌝ }
+    ensures { λ r. ⌜ plainSet r (now («kept_columns» .exit)) (now («kept_limits» .exit))
+        ≡ codesSet sketch watch (now (columns .entry)) (now (limits .entry)) (now («kept_columns» .entry)) (now («kept_limits» .entry)) ⌝ }
 {
     let core = edge_values::core(sketch);
     let before = edge_values::watch(watch);
@@ -36,7 +37,8 @@ pub extern "C" fn microscope_ask(
     grid: &[u8],
     list: &mut [u8],
 ) -> PlainAsked
-    ensures { λ r. ⌜ plainAsk r (now (list .exit)) ≡ askOf (askCall (sketchOf sketch) (watchOf watch) (now («kept_columns» .entry)) (now («kept_limits» .entry)) (now (grid .entry)) (now (list .entry))) ⌝ }
+    ensures { λ r. ⌜ plainAsk r (now (list .exit))
+        ≡ codesAsked sketch watch (now («kept_columns» .entry)) (now («kept_limits» .entry)) (now (grid .entry)) (now (list .entry)) ⌝ }
 {
     let core = edge_values::core(sketch);
     let before = edge_values::watch(watch);
