@@ -30,7 +30,8 @@ use Rattle.codes.proofs.InLaws.{or-true, in-where, not-in-none}
 use Rattle.codes.proofs.CellLaws.{code-cell-where, sound-judged}
 
 -- COLUMNS of codes each of which is a key
-module _ (k : MicroCm) (columns : List ℕ) (count : ℕ) (some : 1 ≤ k .rows) (room : count * k .rows ≤ length columns) (fits : (i : ℕ) → i < count → keyFits k (codeIn (k .rows) columns i) ≡ true) where
+module _ (k : MicroCm) (columns : List ℕ) (count : ℕ) (some : 1 ≤ k .rows) (room : count * k .rows ≤ length columns)
+    (fits : (i : ℕ) → i < count → keyFits k (codeIn (k .rows) columns i) ≡ true) where
   column-low : (p : ℕ) → p < count * k .rows → getD columns p 0 < k .cols
   column-low p h =
       let i = p / k .rows in
@@ -53,7 +54,8 @@ unfolding those
 those-in list j [] e = absurd (true≢false (sym e ∙ not-in-none j))
 those-in list j (x ∷ xs) e = by (isIn x list) refl (those-in list j xs) e
   where
-    by : (b : Bool) → isIn x list ≡ b → (isIn j (those list xs) ≡ true → isIn j list ≡ true) → isIn j (cond b (x ∷ those list xs) (those list xs)) ≡ true → isIn j list ≡ true
+    by : (b : Bool) → isIn x list ≡ b → (isIn j (those list xs) ≡ true → isIn j list ≡ true)
+        → isIn j (cond b (x ∷ those list xs) (those list xs)) ≡ true → isIn j list ≡ true
     by true q later e = in-where j x (those list xs) e (isIn j list ≡ true) (λ same. rw (← same) q) later
     by false q later e = later e
 
@@ -64,7 +66,8 @@ module _ (k : MicroCm) (g : List ℕ) where
       in-where j x xs e (soundOf (k .params .t) (k .params .c) (cellOf k g j) ≡ true) (λ same. rw (← same) (judged-cons k g x xs w .0))
       (judged-in xs j (judged-cons k g x xs w .1))
 
-  codes-judged : (columns : List ℕ) (count : ℕ) → ((i : ℕ) → i < count → Judged k g (keyCells k 0 (codeIn (k .rows) columns i))) → Judged k g (watchedCells k columns count)
+  codes-judged : (columns : List ℕ) (count : ℕ) → ((i : ℕ) → i < count → Judged k g (keyCells k 0 (codeIn (k .rows) columns i)))
+      → Judged k g (watchedCells k columns count)
   codes-judged columns count sound =
       sound-judged k g (watchedCells k columns count) (λ j e.
       let it = code-cell-where k columns count j (those-in (codeCells k columns count) j (allCells k) e) in
@@ -86,7 +89,8 @@ module _ (k : MicroCm) (w : Watch) (columns g : List ℕ) (room : ℕ) (good : s
   ready : Ready k (length g)
   ready = ready-of k g good
 
-  fitting : w .count ≤ 64 → w .count ≤ room → keptFit k w columns ≡ true → Judged k g (watchedCells k columns (w .count)) → askVerdict k w columns g room ≡ Accepted
+  fitting : w .count ≤ 64 → w .count ≤ room → keptFit k w columns ≡ true → Judged k g (watchedCells k columns (w .count))
+      → askVerdict k w columns g room ≡ Accepted
   fitting few enough fit sound =
       gate-open (refuseSketch k g) (sketch-gate k g) _ good ∙ rw (fit, le-ltb 64 (w .count) few, le-ltb room (w .count) enough) sound
 
@@ -95,7 +99,8 @@ module _ (k : MicroCm) (w : Watch) (columns g : List ℕ) (room : ℕ) (good : s
   asks-none e =
       fitting (omega arith) (omega arith) (rw (eq-eqb (w .count) 0 e) refl) (codes-judged k g columns (w .count) (λ i h. absurd (omega arith)))
 
-  module _ (rows : w .rows ≡ k .rows) (long : length columns ≡ 8192) (reads : (i : ℕ) → i < w .count → readVerdict k (codeIn (k .rows) columns i) g ≡ Accepted) (few : w .count ≤ 64) where
+  module _ (rows : w .rows ≡ k .rows) (long : length columns ≡ 8192)
+      (reads : (i : ℕ) → i < w .count → readVerdict k (codeIn (k .rows) columns i) g ≡ Accepted) (few : w .count ≤ 64) where
     read : (i : ℕ) → i < w .count → (keyFits k (codeIn (k .rows) columns i) ≡ true) × Judged k g (keyCells k 0 (codeIn (k .rows) columns i))
     read i h =
         let key = codeIn (k .rows) columns i in

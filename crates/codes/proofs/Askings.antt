@@ -73,7 +73,8 @@ module _ (columns limits : List ℕ) (long : length columns ≡ 8192) (long-limi
     read i h =
         let inside : i < s .watch .count = omega (arith, keeps .count-is) in
         let same = kept-fit k (s .watch) (s .columns) (good .fit) (omega arith) (good .few) .0 in
-        let accepted = code-read k (s .watch) (s .columns) g (length list) good (keeps .columns-size) (ask-accepted k (s .watch) (s .columns) g (length list) e .1) i inside in
+        let judged = ask-accepted k (s .watch) (s .columns) g (length list) e .1 in
+        let accepted = code-read k (s .watch) (s .columns) g (length list) good (keeps .columns-size) judged i inside in
         let key = codeIn (k .rows) (lastSet before .columns) i in
         let is = rw (kept-code s (lastSet before) (wasReached start before) keeps k same i inside) at accepted in
         (is, ap (λ (v : Verdict). whenAccepted v (overOf k g key) 0) is)
@@ -84,7 +85,8 @@ module _ (columns limits : List ℕ) (long : length columns ≡ 8192) (long-limi
           these = λ i. rw (onto-taken list new) (newly-in (reachedBy before k g) (wasReached start before) (codesOf before) i);
           returned = rw (onto-length list new new-room) new-room;
           ascending = λ a b h l.
-              rw (onto-at list new a (omega arith), onto-at list new b l) (newly-ascending (reachedBy before k g) (wasReached start before) (codesOf before) a b h l);
+              rw (onto-at list new a (omega arith), onto-at list new b l)
+              (newly-ascending (reachedBy before k g) (wasReached start before) (codesOf before) a b h l);
           places = onto-length list new new-room;
           behind = onto-dropped list new;
           as-read = read;
@@ -99,7 +101,10 @@ module _ (s : Kept) where
   unfolding after setCall
   set-left k columns limits n =
       let v = setVerdict k columns (length limits) in
-      rw (refused-leaves v (newList k (length limits)) (s .watch) n, refused-leaves v (onto (s .columns) columns) (s .columns) n, refused-leaves v (onto (s .limits) limits) (s .limits) n) refl
+      let list-left = refused-leaves v (newList k (length limits)) (s .watch) n in
+      let columns-left = refused-leaves v (onto (s .columns) columns) (s .columns) n in
+      let limits-left = refused-leaves v (onto (s .limits) limits) (s .limits) n in
+      rw (list-left, columns-left, limits-left) refl
 
   ask-left : (k : MicroCm) (g list : List ℕ) → isAccepted (askedAt s k g list .answer .verdict) ≡ false
       → (after (asking k g list) s ≡ s) × (askedAt s k g list .list ≡ list) × (askedAt s k g list .answer .listed ≡ 0)

@@ -73,6 +73,20 @@ module _ (k : MicroCm) (g : List ℕ) where
   sound-judged [] sound = refl
   sound-judged (x ∷ xs) sound = cons-judged k g x xs (sound x (in-first x x xs refl)) (sound-judged xs (λ j e. sound j (in-later j x xs e)))
 
+  -- THE VERDICT over some cells accepts them all, or names one
+  pub told-where : (cells : List ℕ) (A : Type 0) → (Judged k g cells → A) → ((j : ℕ) → refuseUnsound k g cells Accepted ≡ Unsound j → A) → A
+  unfolding firstUnsound
+  told-where [] A all one = all refl
+  told-where (x ∷ xs) A all one = by (soundAt x) (told-where xs A) all one
+    where
+      told : Bool → Verdict
+      told b = cond b (refuseUnsound k g xs Accepted) (Unsound x)
+
+      by : (b : Bool) → ((told true ≡ Accepted → A) → ((j : ℕ) → told true ≡ Unsound j → A) → A)
+          → (told b ≡ Accepted → A) → ((j : ℕ) → told b ≡ Unsound j → A) → A
+      by true later all one = later all one
+      by false later all one = one x refl
+
   -- OF CELLS IN GRID ORDER those that stand in a list
   module _ (list : List ℕ) where
     abbrev cellsFrom : ℕ → ℕ → List ℕ
@@ -137,7 +151,8 @@ module _ (k : MicroCm) (g : List ℕ) where
         rest = refuseUnsound k g (cellsFrom (suc first) count) Accepted
 
         by : (x : Bool) → isIn first list ≡ x → (s : Bool) → soundAt first ≡ s → (rest ≡ Unsound j → FirstOfThose (suc first) (suc first + count) j)
-            → refuseUnsound k g (cond x (first ∷ cellsFrom (suc first) count) (cellsFrom (suc first) count)) Accepted ≡ Unsound j → FirstOfThose first (first + suc count) j
+            → refuseUnsound k g (cond x (first ∷ cellsFrom (suc first) count) (cellsFrom (suc first) count)) Accepted ≡ Unsound j
+            → FirstOfThose first (first + suc count) j
         by false q s t later e = those-later first count j (λ e'. absurd (true≢false (sym e' ∙ q))) (later e)
         by true q true t later e = those-later first count j (λ e'. t) (later (rw t at e))
         by true q false t later e =

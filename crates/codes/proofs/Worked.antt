@@ -17,7 +17,8 @@ use Rattle.codes.specs.Askings.{after}
 use Rattle.codes.specs.Examples.{Worked}
 
 pub worked : (columns limits : List ℕ) → Worked columns limits
-unfolding numberOf highest least total shutterOf soundOf maxZoom nOf keyCells countFrom itemsIn leastIn sumBack firstUnsound bitsUpTo gridFits allBelow reachedAt newly flagsOf codeCells isIn those codesFit keptFit setCall askCall after
+unfolding numberOf highest least total shutterOf soundOf maxZoom nOf keyCells countFrom itemsIn leastIn sumBack firstUnsound
+    bitsUpTo gridFits allBelow reachedAt newly flagsOf codeCells isIn those codesFit keptFit setCall askCall after
 worked columns limits = record {
   no-codes = (refl, refl);
   below = (refl, refl);

@@ -18,6 +18,8 @@ pub record CodeAcceptance : Type 0 where
       → ((i : ℕ) → i < count → keyFits k (codeIn (k .rows) columns i) ≡ true) → count ≤ 64 → setVerdict k columns count ≡ Accepted
   -- codes each of which can be read, whatever the other cells hold, can be asked with a list that has a place for each
   pub asks : (k : MicroCm) (w : Watch) (columns g : List ℕ) (room : ℕ) → sketchVerdict k g ≡ Accepted → w .rows ≡ k .rows → length columns ≡ 8192
-      → ((i : ℕ) → i < w .count → readVerdict k (codeIn (k .rows) columns i) g ≡ Accepted) → w .count ≤ 64 → w .count ≤ room → askVerdict k w columns g room ≡ Accepted
+      → ((i : ℕ) → i < w .count → readVerdict k (codeIn (k .rows) columns i) g ≡ Accepted) → w .count ≤ 64 → w .count ≤ room
+      → askVerdict k w columns g room ≡ Accepted
   -- and no codes with any list
-  pub asks-none : (k : MicroCm) (w : Watch) (columns g : List ℕ) (room : ℕ) → sketchVerdict k g ≡ Accepted → w .count ≡ 0 → askVerdict k w columns g room ≡ Accepted
+  pub asks-none : (k : MicroCm) (w : Watch) (columns g : List ℕ) (room : ℕ) → sketchVerdict k g ≡ Accepted → w .count ≡ 0
+      → askVerdict k w columns g room ≡ Accepted

@@ -23,4 +23,5 @@ askCauses k w columns g room =
 -- BOTH are refused by the first of their causes that holds, and they stand in the table's order
 pub record CodeCalls : Type 0 where
   pub set : (k : MicroCm) (columns : List ℕ) (count : ℕ) → Told (setVerdict k columns count) (1 ∷ 2 ∷ 3 ∷ 4 ∷ 5 ∷ 7 ∷ 19 ∷ []) (setCauses k columns count)
-  pub ask : (k : MicroCm) (w : Watch) (columns g : List ℕ) (room : ℕ) → Told (askVerdict k w columns g room) (1 ∷ 2 ∷ 3 ∷ 4 ∷ 5 ∷ 6 ∷ 7 ∷ 19 ∷ 20 ∷ 14 ∷ []) (askCauses k w columns g room)
+  pub ask : (k : MicroCm) (w : Watch) (columns g : List ℕ) (room : ℕ)
+      → Told (askVerdict k w columns g room) (1 ∷ 2 ∷ 3 ∷ 4 ∷ 5 ∷ 6 ∷ 7 ∷ 19 ∷ 20 ∷ 14 ∷ []) (askCauses k w columns g room)

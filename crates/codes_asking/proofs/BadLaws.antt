@@ -7,20 +7,22 @@ use mathlib.Core.List.{List, [], _∷_, _++_}
 use native.Mathlib.Omega.{arith}
 use native.Mathlib.Nat.{suc-mul}
 use lib.Dec.{ltb, eqb}
-use borrow.Author.Tests.{eq-eqb, eqb-true, ltb-true, ltb-false}
+use borrow.Author.Tests.{eq-eqb, eqb-true, lt-ltb, ltb-true, ltb-false}
 use Rattle.refusal.specs.declared.Verdict.{Verdict}
 use Rattle.refusal.specs.declared.Verdict.the-variants.{Accepted, Unsound}
 use Rattle.refusal.specs.Refusals.{isAccepted, indexOf}
 use Rattle.cell.specs.Cell.{soundOf}
 use Rattle.sketch.specs.declared.MicroCm.{MicroCm}
-use Rattle.sketch.specs.Sketch.{cellsOf, cellIndex, cellOf, keyCells, countFrom, allCells}
+use Rattle.sketch.specs.Sketch.{cellsOf, cellIndex, cellOf, keyCells, allCells}
 use Rattle.sketch.specs.Audit.{firstUnsound}
 use Rattle.sketch.specs.Refusals.{allBelow, keyFits, refuseUnsound}
+use Rattle.sketch.specs.Workers.{Judged}
 use Rattle.sketch.proofs.GridLaws.{below-first, below-rest}
 use Rattle.sketch.proofs.KeyLaws.{KeyFrom, key-cells-below}
 use Rattle.sketch.proofs.WorldLaws.{fits-key}
 use Rattle.codes.specs.Codes.{codeIn, codeCells, isIn, those, watchedCells}
 use Rattle.codes.proofs.InLaws.{or-where, or-true, in-append}
+use Rattle.codes.proofs.CellLaws.{told-where, FirstOfThose, those-judged, those-named}
 use Rattle.codes_asking.specs.Workers.{itself, badIn, leastBad}
 
 module _ (k : MicroCm) (g : List ℕ) where
@@ -31,13 +33,19 @@ module _ (k : MicroCm) (g : List ℕ) where
   abbrev firstBad : ℕ → List ℕ → ℕ
   firstBad none cells = firstUnsound itself none k g cells
 
-  pub first-named : (none : ℕ) (cells : List ℕ) → firstBad none cells ≡ cond (isAccepted (refuseUnsound k g cells Accepted)) none (indexOf (refuseUnsound k g cells Accepted))
+  abbrev told : List ℕ → Verdict
+  told cells = refuseUnsound k g cells Accepted
+
+  abbrev namedBy : ℕ → Verdict → ℕ
+  namedBy none v = cond (isAccepted v) none (indexOf v)
+
+  pub first-named : (none : ℕ) (cells : List ℕ) → firstBad none cells ≡ namedBy none (told cells)
   unfolding firstUnsound
   first-named none [] = refl
   first-named none (j ∷ js) = by (soundAt j) (first-named none js)
     where
-      by : (x : Bool) → firstBad none js ≡ cond (isAccepted (refuseUnsound k g js Accepted)) none (indexOf (refuseUnsound k g js Accepted))
-          → cond x (firstBad none js) j ≡ cond (isAccepted (cond x (refuseUnsound k g js Accepted) (Unsound j))) none (indexOf (cond x (refuseUnsound k g js Accepted) (Unsound j)))
+      by : (x : Bool) → firstBad none js ≡ namedBy none (told js)
+          → cond x (firstBad none js) j ≡ namedBy none (cond x (told js) (Unsound j))
       by true e = e
       by false e = refl
 
@@ -47,6 +55,12 @@ module _ (k : MicroCm) (g : List ℕ) where
     pub inside : m < none → isIn m cells ≡ true
     pub bad : m < none → soundAt m ≡ false
     pub before : (i : ℕ) → isIn i cells ≡ true → i < m → soundAt i ≡ true
+
+  -- of no cells it is `none`
+  smallest-of-none : (none : ℕ) → Smallest none [] none
+  unfolding isIn
+  smallest-of-none none =
+      record { most = omega arith; inside = λ h. absurd (omega arith); bad = λ h. absurd (omega arith); before = λ i e h. absurd (true≢false (sym e)) }
 
   -- of two lists the smaller of both
   smallest-of-two : (none : ℕ) (xs ys : List ℕ) (a b : ℕ) → Smallest none xs a → Smallest none ys b → Smallest none (xs ++ ys) (min a b)
@@ -86,12 +100,13 @@ module _ (k : MicroCm) (g : List ℕ) where
       (λ h. omega (arith, eqb-true (cellIndex k row x) i h))
       (λ h. omega (arith, cells-from (suc row) xs i h, suc-mul row (k .cols)))
 
-  smallest-of-key : (none row : ℕ) (key : List ℕ) → KeyFrom k row key → allBelow none (keyCells k row key) ≡ true → Smallest none (keyCells k row key) (firstBad none (keyCells k row key))
+  smallest-of-key : (none row : ℕ) (key : List ℕ) → KeyFrom k row key → allBelow none (keyCells k row key) ≡ true
+      → Smallest none (keyCells k row key) (firstBad none (keyCells k row key))
   unfolding keyCells firstUnsound isIn
-  smallest-of-key none row [] w low = record { most = omega arith; inside = λ h. absurd (omega arith); bad = λ h. absurd (omega arith); before = λ i e h. absurd (true≢false (sym e)) }
+  smallest-of-key none row [] w low = smallest-of-none none
   smallest-of-key none row (x ∷ xs) w low =
-      by (soundAt j) refl
-      (smallest-of-key none (suc row) xs (record { low = below-rest (k .cols) x xs (w .low); few = omega (arith, w .few) }) (below-rest none j (keyCells k (suc row) xs) low))
+      let later : KeyFrom k (suc row) xs = record { low = below-rest (k .cols) x xs (w .low); few = omega (arith, w .few) } in
+      by (soundAt j) refl (smallest-of-key none (suc row) xs later (below-rest none j (keyCells k (suc row) xs) low))
     where
       j : ℕ
       j = cellIndex k row x
@@ -120,56 +135,37 @@ module _ (k : MicroCm) (g : List ℕ) where
                 (λ behind. absurd (omega (arith, cells-from (suc row) xs i behind, suc-mul row (k .cols), below-first (k .cols) x xs (w .low))));
           }
 
-  -- IN GRID ORDER the smallest comes first
-  module _ (cells : List ℕ) where
-    abbrev toldFrom : ℕ → ℕ → Verdict
-    toldFrom first count = refuseUnsound k g (those cells (countFrom first count)) Accepted
+  -- IN GRID ORDER the smallest comes first: the verdict names the first, and no other can be both the first and the smallest
+  module _ (cells : List ℕ) (m : ℕ) (w : Smallest (cellsOf k) cells m) where
+    abbrev inOrder : List ℕ
+    inOrder = those cells (allCells k)
 
-    told-none : (count first : ℕ) → ((i : ℕ) → i < first + count → isIn i cells ≡ true → soundAt i ≡ true) → toldFrom first count ≡ Accepted
-    unfolding firstUnsound countFrom those
-    told-none zero first all = refl
-    told-none (suc count) first all = by (isIn first cells) refl (told-none count (suc first) (λ i h e. all i (omega arith) e))
+    first-is : (j : ℕ) → FirstOfThose k g cells 0 (0 + cellsOf k) j → (x y : Bool) → ltb m j ≡ x → ltb j m ≡ y → m ≡ j
+    first-is j f true y p q =
+        let l : m < cellsOf k = omega (arith, ltb-true m j p, f .high) in
+        absurd (true≢false (sym (f .earlier m (omega arith) (ltb-true m j p) (w .inside l)) ∙ w .bad l))
+    first-is j f false true p q = absurd (true≢false (sym (w .before j (f .listed) (ltb-true j m q)) ∙ f .bad))
+    first-is j f false false p q = omega (arith, ltb-false m j p, ltb-false j m q)
+
+    pub told-smallest : told inOrder ≡ cond (ltb m (cellsOf k)) (Unsound m) Accepted
+    told-smallest =
+        told-where k g inOrder (told inOrder ≡ cond (ltb m (cellsOf k)) (Unsound m) Accepted) (all (ltb m (cellsOf k)) refl)
+        (λ j e.
+        let f = those-named k g cells (cellsOf k) 0 j e in
+        let same : m ≡ j = first-is j f (ltb m j) (ltb j m) refl refl in
+        rw (same, lt-ltb j (cellsOf k) (omega (arith, f .high))) e)
       where
-        by : (x : Bool) → isIn first cells ≡ x → toldFrom (suc first) count ≡ Accepted
-            → refuseUnsound k g (cond x (first ∷ those cells (countFrom (suc first) count)) (those cells (countFrom (suc first) count))) Accepted ≡ Accepted
-        by true t later = rw (all first (omega arith) t) later
-        by false t later = later
-
-    told-first : (count first j : ℕ) → first ≤ j → j < first + count → isIn j cells ≡ true → soundAt j ≡ false
-        → ((i : ℕ) → isIn i cells ≡ true → i < j → soundAt i ≡ true) → toldFrom first count ≡ Unsound j
-    unfolding firstUnsound countFrom those
-    told-first zero first j l h e b all = absurd (omega arith)
-    told-first (suc count) first j l h e b all = by (ltb first j) refl (λ q. told-first count (suc first) j q (omega arith) e b all)
-      where
-        skip : (x : Bool) → isIn first cells ≡ x → first < j → toldFrom (suc first) count ≡ Unsound j
-            → refuseUnsound k g (cond x (first ∷ those cells (countFrom (suc first) count)) (those cells (countFrom (suc first) count))) Accepted ≡ Unsound j
-        skip true t q later = rw (all first t q) later
-        skip false t q later = later
-
-        by : (x : Bool) → ltb first j ≡ x → (first < j → toldFrom (suc first) count ≡ Unsound j)
-            → refuseUnsound k g (cond (isIn first cells) (first ∷ those cells (countFrom (suc first) count)) (those cells (countFrom (suc first) count))) Accepted ≡ Unsound j
-        by true q later = skip (isIn first cells) refl (ltb-true first j q) (later (ltb-true first j q))
-        by false q later =
-            let same : first ≡ j = omega (arith, ltb-false first j q) in
-            rw (same, e, b) refl
-
-    pub told-smallest : (m : ℕ) → Smallest (cellsOf k) cells m → refuseUnsound k g (those cells (allCells k)) Accepted ≡ cond (ltb m (cellsOf k)) (Unsound m) Accepted
-    told-smallest m w = by (ltb m (cellsOf k)) refl
-      where
-        by : (x : Bool) → ltb m (cellsOf k) ≡ x → refuseUnsound k g (those cells (allCells k)) Accepted ≡ cond x (Unsound m) Accepted
-        by true t =
+        all : (x : Bool) → ltb m (cellsOf k) ≡ x → Judged k g inOrder → told inOrder ≡ cond x (Unsound m) Accepted
+        all true t sound =
             let l : m < cellsOf k = ltb-true m (cellsOf k) t in
-            told-first (cellsOf k) 0 m (omega arith) (omega arith) (w .inside l) (w .bad l) (w .before)
-        by false t =
-            let l : cellsOf k ≤ m = ltb-false m (cellsOf k) t in
-            told-none (cellsOf k) 0 (λ i h e. w .before i e (omega arith))
+            absurd (true≢false (sym (those-judged k g cells (cellsOf k) 0 sound m (omega arith) (omega arith) (w .inside l)) ∙ w .bad l))
+        all false t sound = sound
 
   -- ALL THE CODES below n, each of which is a key
   pub codes-smallest : (columns : List ℕ) (n : ℕ) → ((i : ℕ) → i < n → keyFits k (codeIn (k .rows) columns i) ≡ true)
       → Smallest (cellsOf k) (codeCells k columns n) (leastBad k columns g n)
   unfolding codeCells leastBad isIn
-  codes-smallest columns zero fit =
-      record { most = omega arith; inside = λ h. absurd (omega arith); bad = λ h. absurd (omega arith); before = λ i e h. absurd (true≢false (sym e)) }
+  codes-smallest columns zero fit = smallest-of-none (cellsOf k)
   codes-smallest columns (suc n) fit =
       let key = codeIn (k .rows) columns n in
       let from = fits-key k key (fit n (omega arith)) in
@@ -178,5 +174,5 @@ module _ (k : MicroCm) (g : List ℕ) where
       (smallest-of-key (cellsOf k) 0 key from (key-cells-below k 0 key from))
 
   pub cells-told : (columns : List ℕ) (n : ℕ) → ((i : ℕ) → i < n → keyFits k (codeIn (k .rows) columns i) ≡ true)
-      → refuseUnsound k g (watchedCells k columns n) Accepted ≡ cond (ltb (leastBad k columns g n) (cellsOf k)) (Unsound (leastBad k columns g n)) Accepted
+      → told (watchedCells k columns n) ≡ cond (ltb (leastBad k columns g n) (cellsOf k)) (Unsound (leastBad k columns g n)) Accepted
   cells-told columns n fit = told-smallest (codeCells k columns n) (leastBad k columns g n) (codes-smallest columns n fit)

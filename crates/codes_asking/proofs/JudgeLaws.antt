@@ -1,5 +1,5 @@
 -- The ways through the judges of an asking: each way out is the cause that holds first. Assumes nothing.
-use Prim.Native.Nat.{ℕ, _+_, _-_, _*_, _^_, _≤_, _<_, min}
+use Prim.Native.Nat.{ℕ, _+_, _*_, _^_, _≤_, _<_, min}
 use mathlib.Core.Path.{_≡_, refl, sym, _∙_}
 use mathlib.Core.Bool.{Bool, true, false, not, cond, _&&_, _||_, true≢false}
 use mathlib.Core.List.{List}
@@ -7,7 +7,7 @@ use native.Mathlib.Omega.{arith}
 use native.Mathlib.Numerals.{add-one}
 use native.Mathlib.Nat.{zero-mul, add-sub-cancel-left}
 use lib.Dec.{ltb, eqb}
-use lib.ListN.{length, take, drop, length-take}
+use lib.ListN.{length, take, length-take}
 use borrow.Author.Tests.{lt-ltb, le-ltb, eq-eqb, ne-eqb, eqb-true, not-true, not-false}
 use Rattle.refusal.specs.declared.Verdict.{Verdict}
 use Rattle.refusal.specs.declared.Verdict.the-variants.{Accepted, Refused, Unsound}
@@ -29,7 +29,7 @@ use Rattle.codes.proofs.VerdictLaws.{ask-accepted}
 use Rattle.codes.proofs.CodeLaws.{code-inside, code-fits}
 use Rattle.codes.proofs.WatchedLaws.{code-readable}
 use Rattle.codes_asking.specs.declared.pass.Found.{Found}
-use Rattle.codes_asking.specs.Workers.{Held, Placed, badIn, leastBad, Room, Told}
+use Rattle.codes_asking.specs.Workers.{Held, Placed, lentCode, badIn, leastBad, Room, Told}
 use Rattle.codes_asking.proofs.BadLaws.{first-named, cells-told}
 
 -- THE KEPT COLUMNS
@@ -43,7 +43,8 @@ module _ (k : MicroCm) (w : Watch) (columns : List ℕ) where
     unfolding keptFit
     fit-rows e = rw (ne-eqb (w .count) 0 some, ne-eqb (w .rows) (k .rows) e) refl
 
-    pub fit-columns : (m : ℕ) (low : Bool) → m ≡ min (w .count) 64 → w .rows ≡ k .rows → low ≡ allBelow (k .cols) (take (m * k .rows) columns) → low ≡ keptFit k w columns
+    pub fit-columns : (m : ℕ) (low : Bool) → m ≡ min (w .count) 64 → w .rows ≡ k .rows → low ≡ allBelow (k .cols) (take (m * k .rows) columns)
+        → low ≡ keptFit k w columns
     unfolding keptFit
     fit-columns m low em e el = el ∙ rw (em, ne-eqb (w .count) 0 some, eq-eqb (w .rows) (k .rows) e) refl
 
@@ -87,10 +88,11 @@ module _ (k : MicroCm) (columns g : List ℕ) where
     pub cells-fit : k .rows * k .cols < 2 ^ 64
     cells-fit = omega (arith, product-le (k .rows) (k .cols) 128 65536 (w .ready .rows-high) (w .ready .cols-high))
 
-    pub lent-key : keyFits k (take (code * k .rows + k .rows - code * k .rows) (drop (code * k .rows) columns)) ≡ true
+    pub lent-key : keyFits k (lentCode k columns code) ≡ true
     lent-key = rw add-sub-cancel-left (w .fits)
 
-    module _ (v : Verdict) (ev : v ≡ firstUnsound Unsound Accepted k g (keyCells k 0 (take (code * k .rows + k .rows - code * k .rows) (drop (code * k .rows) columns)))) (ok : Bool) (asked : ok ≡ isAccepted v) where
+    module _ (v : Verdict) (ev : v ≡ firstUnsound Unsound Accepted k g (keyCells k 0 (lentCode k columns code)))
+        (ok : Bool) (asked : ok ≡ isAccepted v) where
       same : v ≡ refuseUnsound k g (keyCells k 0 (codeIn (k .rows) columns code)) Accepted
       same = ev ∙ rw add-sub-cancel-left
 
@@ -147,7 +149,8 @@ module _ (k : MicroCm) (g : List ℕ) (v : Verdict) (ev : v ≡ sketchVerdict k 
   pub ask-cells : k .rows * k .cols < 2 ^ 64
   ask-cells = omega (arith, product-le (k .rows) (k .cols) 128 65536 (ask-ready .rows-high) (ask-ready .cols-high))
 
-  ask-held : (w : Watch) (columns : List ℕ) (fits : Bool) → fits ≡ keptFit k w columns → not fits ≡ false → w .count ≤ 64 → length columns ≡ 8192 → Held k columns g (w .count)
+  ask-held : (w : Watch) (columns : List ℕ) (fits : Bool) → fits ≡ keptFit k w columns → not fits ≡ false → w .count ≤ 64 → length columns ≡ 8192
+      → Held k columns g (w .count)
   ask-held w columns fits ef b few long = record { ready = ask-ready; few = few; long = long; below = held-below k w columns fits ef b few }
 
 -- THE VERDICT
@@ -173,9 +176,10 @@ module _ (k : MicroCm) (w : Watch) (columns g : List ℕ) (room : ℕ) (v : Verd
         module _ (enough : w .count ≤ room) (long : length columns ≡ 8192) (bad : ℕ) (eb : bad ≡ leastBad k columns g (w .count)) where
           told : askVerdict k w columns g room ≡ cond (ltb bad (cellsOf k)) (Unsound bad) Accepted
           told =
+              let held = ask-held k g v ev ok asked a w columns fits ef b few long in
               past _
               ∙ rw (← ef, not-false fits b, le-ltb 64 (w .count) few, le-ltb room (w .count) enough, eb)
-              (cells-told k g columns (w .count) (λ i h. placed-of k columns g (w .count) i (ask-held k g v ev ok asked a w columns fits ef b few long) h .fits))
+              (cells-told k g columns (w .count) (λ i h. placed-of k columns g (w .count) i held h .fits))
 
           pub ask-unsound : bad < k .rows * k .cols → Unsound bad ≡ askVerdict k w columns g room
           ask-unsound h = sym (told ∙ rw (lt-ltb bad (cellsOf k) h) refl)
@@ -184,7 +188,8 @@ module _ (k : MicroCm) (w : Watch) (columns g : List ℕ) (room : ℕ) (v : Verd
           ask-let-pass h = sym (told ∙ rw (le-ltb bad (cellsOf k) h) refl)
 
 -- THE ANSWER
-module _ (k : MicroCm) (w : Watch) (columns limits g list : List ℕ) (v : Verdict) (ev : v ≡ askVerdict k w columns g (length list)) (ok : Bool) (asked : ok ≡ isAccepted v) where
+module _ (k : MicroCm) (w : Watch) (columns limits g list : List ℕ)
+    (v : Verdict) (ev : v ≡ askVerdict k w columns g (length list)) (ok : Bool) (asked : ok ≡ isAccepted v) where
   pub ask-refused : not ok ≡ true → askOutcome (record { verdict = v; listed = 0; watch = w }) list ≡ askCall k w columns limits g list
   unfolding askCall
   ask-refused h =
@@ -205,6 +210,7 @@ module _ (k : MicroCm) (w : Watch) (columns limits g list : List ℕ) (v : Verdi
         }
 
     pub ask-done : (r : Found) (list' : List ℕ) → Told k (w .count) columns limits (w .reached) g list list' r
-        → askOutcome (record { verdict = v; listed = r .listed; watch = record { count = w .count; rows = w .rows; reached = r .reached } }) list' ≡ askCall k w columns limits g list
+        → askOutcome (record { verdict = v; listed = r .listed; watch = record { count = w .count; rows = w .rows; reached = r .reached } }) list'
+        ≡ askCall k w columns limits g list
     unfolding askCall
     ask-done r list' t = rw (← ev, let-pass v ok asked h, t .listed-is, t .reached-is, t .list-is) refl

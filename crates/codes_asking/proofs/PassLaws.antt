@@ -21,14 +21,14 @@ use Rattle.sketch_reading_figures.specs.Workers.{estimateOf}
 use Rattle.codes.specs.Codes.{codeIn, reachedAt, newly, flagAt, flagsOf}
 use Rattle.codes.proofs.FlagLaws.{flags-below}
 use Rattle.codes.proofs.CodeLaws.{code-inside}
-use Rattle.codes_asking.specs.Workers.{Askable, Room, Noted, Told}
+use Rattle.codes_asking.specs.Workers.{lentCode, Askable, Room, Noted, Told}
 
 -- THE OVER FIGURE of a code, of columns that are lent as a part
 module _ (k : MicroCm) (columns g : List ℕ) (code : ℕ) (w : Askable k columns g code) where
-  pub over-readable : Readable k (take (code * k .rows + k .rows - code * k .rows) (drop (code * k .rows) columns)) g
+  pub over-readable : Readable k (lentCode k columns code) g
   over-readable = rw add-sub-cancel-left (w .readable)
 
-  pub over-is : (fraction : Float) (e : Estimated) → e ≡ estimateOf k g (take (code * k .rows + k .rows - code * k .rows) (drop (code * k .rows) columns)) fraction
+  pub over-is : (fraction : Float) (e : Estimated) → e ≡ estimateOf k g (lentCode k columns code) fraction
       → e .over ≡ overOf k g (codeIn (k .rows) columns code)
   over-is fraction e ee = rw ee (rw add-sub-cancel-left refl)
 
@@ -120,7 +120,8 @@ module _ (k : MicroCm) (columns limits g : List ℕ) (before : ℕ) where
             record { room = omega (arith, code-inside (k .rows) count code h, room .long); long = room .long; readable = read }
 
         pub passing-on : (over reached' listed' : ℕ) (list' : List ℕ) → code < count → over ≡ overOf k g (codeIn (k .rows) columns code)
-            → Noted list listed code (leb (getD limits code 0) over && not (flagAt before code)) list' listed' → reached' ≡ reached + cond (leb (getD limits code 0) over) (2 ^ code) 0
+            → Noted list listed code (leb (getD limits code 0) over && not (flagAt before code)) list' listed'
+            → reached' ≡ reached + cond (leb (getD limits code 0) over) (2 ^ code) 0
             → Passing count list' listed' reached' (code + 1)
         unfolding flagsOf reachedAt
         passing-on over reached' listed' list' h e n er =

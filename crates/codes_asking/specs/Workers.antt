@@ -1,9 +1,9 @@
 -- What the workers ask and give. The public call has judged it; no public contract cites this file.
-use Prim.Native.Nat.{ℕ, zero, suc, _+_, _*_, _≤_, _<_, min}
+use Prim.Native.Nat.{ℕ, zero, suc, _+_, _-_, _*_, _≤_, _<_, min}
 use mathlib.Core.Path.{_≡_}
 use mathlib.Core.Bool.{Bool, true, cond}
 use mathlib.Core.List.{List}
-use lib.ListN.{length, set, take}
+use lib.ListN.{length, set, take, drop}
 use Rattle.sketch.specs.declared.MicroCm.{MicroCm}
 use Rattle.sketch.specs.Sketch.{cellsOf, keyCells}
 use Rattle.sketch.specs.Audit.{firstUnsound}
@@ -30,6 +30,10 @@ badIn k columns g code = firstUnsound itself (cellsOf k) k g (keyCells k 0 (code
 unfoldable pub leastBad : MicroCm → List ℕ → List ℕ → ℕ → ℕ
 leastBad k columns g zero = cellsOf k
 leastBad k columns g (suc n) = min (leastBad k columns g n) (badIn k columns g n)
+
+-- a code's columns as they are lent, a part of the slice: `codeIn` in the form that a slice's bounds give
+abbrev pub lentCode : MicroCm → List ℕ → ℕ → List ℕ
+lentCode k columns code = take (code * k .rows + k .rows - code * k .rows) (drop (code * k .rows) columns)
 
 -- a code's columns stand there, and are a key
 pub record Placed (k : MicroCm) (columns g : List ℕ) (code : ℕ) : Type 0 where

@@ -18,7 +18,8 @@ pub fn ask(
     grid: &[u8],
     list: &mut [u8],
 ) -> AskAnswer
-    ensures { λ r. ⌜ askOutcome r (now (list .exit)) ≡ askCall sketch watch (now («kept_columns» .entry)) (now («kept_limits» .entry)) (now (grid .entry)) (now (list .entry)) ⌝ }
+    ensures { λ r. ⌜ askOutcome r (now (list .exit))
+        ≡ askCall sketch watch (now («kept_columns» .entry)) (now («kept_limits» .entry)) (now (grid .entry)) (now (list .entry)) ⌝ }
 {
     let verdict = judge::asking(sketch, watch, kept_columns, grid, list.len());
     if !verdict.accepted() {

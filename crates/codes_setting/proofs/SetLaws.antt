@@ -41,8 +41,8 @@ module _ (old from : List ℕ) where
         let e : length (take i from) ≡ i = length-take i from ∙ omega arith in
         record {
           is =
-              rw (w .is, drop-cons old i 0 (omega arith), set-at (take i from) (getD old i 0) (drop (suc i) old) v i e, add-one, take-suc from i 0 h, append-assoc)
-              refl;
+              rw (w .is, drop-cons old i 0 (omega arith), set-at (take i from) (getD old i 0) (drop (suc i) old) v i e)
+              (rw (add-one, take-suc from i 0 h, append-assoc) refl);
           long = length-set now i v ∙ w .long;
           most = omega arith;
         }
@@ -100,13 +100,16 @@ module _ (k : MicroCm) (columns : List ℕ) (count : ℕ) where
           codes-let-pass h = sym (past _ ∙ rw (← ef, not-false fits b, le-ltb 64 count h) refl)
 
 -- THE ANSWER
-module _ (k : MicroCm) (w : Watch) (columns limits kept kept-limits : List ℕ) (v : Verdict) (ev : v ≡ setVerdict k columns (length limits)) (ok : Bool) (asked : ok ≡ isAccepted v) where
+module _ (k : MicroCm) (w : Watch) (columns limits kept kept-limits : List ℕ)
+    (v : Verdict) (ev : v ≡ setVerdict k columns (length limits)) (ok : Bool) (asked : ok ≡ isAccepted v) where
   pub set-refused : not ok ≡ true → setOutcome (record { verdict = v; watch = w }) kept kept-limits ≡ setCall k w columns limits kept kept-limits
   unfolding setCall
   set-refused h =
       let n = turned-back v ok asked h in
-      rw (← ev, refused-leaves v (newList k (length limits)) w n, refused-leaves v (onto kept columns) kept n, refused-leaves v (onto kept-limits limits) kept-limits n)
-      refl
+      let list-left = refused-leaves v (newList k (length limits)) w n in
+      let columns-left = refused-leaves v (onto kept columns) kept n in
+      let limits-left = refused-leaves v (onto kept-limits limits) kept-limits n in
+      rw (← ev, list-left, columns-left, limits-left) refl
 
   module _ (h : not ok ≡ false) where
     good : GoodSet k columns (length limits)

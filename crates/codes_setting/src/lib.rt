@@ -42,7 +42,8 @@ pub fn set_codes(
     kept_columns: &mut [u32; 8192],
     kept_limits: &mut [u64; 64],
 ) -> WatchAnswer
-    ensures { λ r. ⌜ setOutcome r (now («kept_columns» .exit)) (now («kept_limits» .exit)) ≡ setCall sketch watch (now (columns .entry)) (now (limits .entry)) (now («kept_columns» .entry)) (now («kept_limits» .entry)) ⌝ }
+    ensures { λ r. ⌜ setOutcome r (now («kept_columns» .exit)) (now («kept_limits» .exit))
+        ≡ setCall sketch watch (now (columns .entry)) (now (limits .entry)) (now («kept_columns» .entry)) (now («kept_limits» .entry)) ⌝ }
 {
     let count = limits.len();
     let verdict = judge::setting(sketch, columns, count);

@@ -24,7 +24,9 @@ use Rattle.edge_values.specs.declared.PlainSketch.{PlainSketch}
 use Rattle.edge_values.specs.declared.PlainSettings.{PlainSettings}
 use Rattle.edge_values.specs.declared.PlainChange.{PlainChange}
 use Rattle.edge_values.specs.declared.PlainAnswer.{PlainAnswer}
-use Rattle.edge_values.specs.Edge.{clockOf, sketchOf, sketchWith, settingsOf, readingAfter, stateAfter, toldOf, changedOf, inPlace, plainWith, plainOf, plainWatch, startOf, watchedOf, askedOf, valueOf, figureOf, verdictOf, foundOf, auditOf, drawnOf, plainReading}
+use Rattle.edge_values.specs.Edge.{clockOf, sketchOf, plainBy, plainWith, plainOf, plainWatch, startOf, watchedOf, askedOf}
+use Rattle.edge_values.specs.Edge.{settingsOf, sketchWith, readingAfter, stateAfter, toldOf, changedOf, inPlace}
+use Rattle.edge_values.specs.Edge.{plainReading, valueOf, figureOf, verdictOf, foundOf, auditOf, drawnOf}
 use Rattle.clock.specs.Clock.{readingOf}
 
 -- THE CLOCK of a kind
@@ -48,13 +50,11 @@ pub core-is : (s : PlainSketch) (clock : SubWindowClock) → clock ≡ clockOf (
 core-is s clock e = rw e refl
 
 module _ (k : MicroCm) (length : ℕ) where
-  pub count-plain : (seen : ℕ) → k .clock ≡ CountBased length seen
-      → record { rows = k .rows; cols = k .cols; t = k .params .t; c = k .params .c; kind = 0; length = length; epoch = 0; reading = seen; state = k .rounding .state } ≡ plainOf k
+  pub count-plain : (seen : ℕ) → k .clock ≡ CountBased length seen → plainBy k 0 length 0 seen ≡ plainOf k
   unfolding plainWith
   count-plain seen e = rw e refl
 
-  pub time-plain : (epoch now : ℕ) → k .clock ≡ TimeBased length epoch now
-      → record { rows = k .rows; cols = k .cols; t = k .params .t; c = k .params .c; kind = 1; length = length; epoch = epoch; reading = now; state = k .rounding .state } ≡ plainOf k
+  pub time-plain : (epoch now : ℕ) → k .clock ≡ TimeBased length epoch now → plainBy k 1 length epoch now ≡ plainOf k
   unfolding plainWith
   time-plain epoch now e = rw e refl
 
@@ -64,7 +64,8 @@ reading-count clock length seen e = rw e refl
 pub reading-time : (clock : SubWindowClock) (length epoch now : ℕ) → clock ≡ TimeBased length epoch now → now ≡ readingOf clock
 reading-time clock length epoch now e = rw e refl
 
-pub core-with-is : (m : PlainSettings) (reading state : ℕ) (s : PlainSketch) (k : MicroCm) → s ≡ sketchWith m reading state → k ≡ sketchOf s → k ≡ sketchOf (sketchWith m reading state)
+pub core-with-is : (m : PlainSettings) (reading state : ℕ) (s : PlainSketch) (k : MicroCm)
+    → s ≡ sketchWith m reading state → k ≡ sketchOf s → k ≡ sketchOf (sketchWith m reading state)
 core-with-is m reading state s k es ek = ek ∙ rw es
 
 -- THE ANSWERS
@@ -78,7 +79,8 @@ module _ (v : Verdict) (n i : ℕ) (en : n ≡ numberOf v) (ei : i ≡ indexOf v
   pub told-is : record { number = n; index = i } ≡ verdictOf v
   told-is = rw (en, ei) refl
 
-pub start-is : (r : ServiceAnswer) (n i : ℕ) (plain : PlainSketch) (watch : PlainWatch) → n ≡ numberOf (r .verdict) → i ≡ indexOf (r .verdict) → plain ≡ plainOf (r .service .sketch)
+pub start-is : (r : ServiceAnswer) (n i : ℕ) (plain : PlainSketch) (watch : PlainWatch)
+    → n ≡ numberOf (r .verdict) → i ≡ indexOf (r .verdict) → plain ≡ plainOf (r .service .sketch)
     → watch ≡ plainWatch (r .service .watch) → record { number = n; index = i; sketch = plain; watch = watch } ≡ startOf r
 start-is r n i plain watch en ei ep ew = rw (en, ei, ep, ew) refl
 
@@ -89,13 +91,16 @@ no-sketch-plain = refl
 
 -- WATCHED CODES
 module _ (n i : ℕ) (watch : PlainWatch) where
-  pub watched-is : (r : WatchAnswer) → n ≡ numberOf (r .verdict) → i ≡ indexOf (r .verdict) → watch ≡ plainWatch (r .watch) → record { number = n; index = i; watch = watch } ≡ watchedOf r
+  pub watched-is : (r : WatchAnswer) → n ≡ numberOf (r .verdict) → i ≡ indexOf (r .verdict) → watch ≡ plainWatch (r .watch)
+      → record { number = n; index = i; watch = watch } ≡ watchedOf r
   watched-is r en ei ew = rw (en, ei, ew) refl
 
-  pub asked-is : (r : AskAnswer) → n ≡ numberOf (r .verdict) → i ≡ indexOf (r .verdict) → watch ≡ plainWatch (r .watch) → record { number = n; index = i; listed = r .listed; watch = watch } ≡ askedOf r
+  pub asked-is : (r : AskAnswer) → n ≡ numberOf (r .verdict) → i ≡ indexOf (r .verdict) → watch ≡ plainWatch (r .watch)
+      → record { number = n; index = i; listed = r .listed; watch = watch } ≡ askedOf r
   asked-is r en ei ew = rw (en, ei, ew) refl
 
-pub change-is : (r : SketchAnswer) (n i : ℕ) → n ≡ numberOf (r .verdict) → i ≡ indexOf (r .verdict) → record { number = n; index = i; draws = r .draws } ≡ toldOf r
+pub change-is : (r : SketchAnswer) (n i : ℕ) → n ≡ numberOf (r .verdict) → i ≡ indexOf (r .verdict)
+    → record { number = n; index = i; draws = r .draws } ≡ toldOf r
 change-is r n i en ei = rw (en, ei) refl
 
 module _ (r : SketchAnswer) (ok : Bool) (asked : ok ≡ isAccepted (r .verdict)) where
@@ -115,8 +120,9 @@ pub beside-is : (m : PlainSettings) (change : PlainChange) (reading state : ℕ)
     → record { number = change .number; index = change .index; draws = change .draws; sketch = s } ≡ inPlace m change reading state
 beside-is m change reading state s e = rw e refl
 
-pub changed-is : (s : PlainSketch) (m : PlainSettings) (reading' state' : ℕ) (a : SketchAnswer) (change : PlainChange) (r : PlainAnswer) → m ≡ settingsOf s → change ≡ toldOf a → reading' ≡ readingAfter (s .reading) a
-    → state' ≡ stateAfter (s .state) a → r ≡ inPlace m change reading' state' → r ≡ changedOf (settingsOf s) (s .reading) (s .state) a
+pub changed-is : (s : PlainSketch) (m : PlainSettings) (reading' state' : ℕ) (a : SketchAnswer) (change : PlainChange) (r : PlainAnswer)
+    → m ≡ settingsOf s → change ≡ toldOf a → reading' ≡ readingAfter (s .reading) a → state' ≡ stateAfter (s .state) a
+    → r ≡ inPlace m change reading' state' → r ≡ changedOf (settingsOf s) (s .reading) (s .state) a
 changed-is s m reading' state' a change r em ec er es e = e ∙ rw (em, ec, er, es)
 
 pub reading-is : (r : ReadingAnswer) (n i : ℕ) → n ≡ numberOf (r .verdict) → i ≡ indexOf (r .verdict)
@@ -141,5 +147,6 @@ module _ (r : AuditAnswer) (n : ℕ) (en : n ≡ numberOf (r .verdict)) where
   unfolding foundOf
   found-one j e = rw (en, e) refl
 
-pub drawn-is : (r : CellAnswer) (n i : ℕ) → n ≡ numberOf (r .verdict) → i ≡ indexOf (r .verdict) → record { number = n; index = i; draws = r .draws; state = r .rounding .state } ≡ drawnOf r
+pub drawn-is : (r : CellAnswer) (n i : ℕ) → n ≡ numberOf (r .verdict) → i ≡ indexOf (r .verdict)
+    → record { number = n; index = i; draws = r .draws; state = r .rounding .state } ≡ drawnOf r
 drawn-is r n i en ei = rw (en, ei) refl

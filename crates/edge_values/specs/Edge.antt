@@ -63,11 +63,23 @@ sketchOf s =
       rounding = record { state = s .state };
     }
 
+abbrev pub plainBy : MicroCm → (kind length epoch reading : ℕ) → PlainSketch
+plainBy k kind length epoch reading =
+    record {
+      rows = k .rows;
+      cols = k .cols;
+      t = k .params .t;
+      c = k .params .c;
+      kind = kind;
+      length = length;
+      epoch = epoch;
+      reading = reading;
+      state = k .rounding .state;
+    }
+
 unfoldable pub plainWith : MicroCm → SubWindowClock → PlainSketch
-plainWith k (CountBased length seen) =
-    record { rows = k .rows; cols = k .cols; t = k .params .t; c = k .params .c; kind = 0; length = length; epoch = 0; reading = seen; state = k .rounding .state }
-plainWith k (TimeBased length epoch now) =
-    record { rows = k .rows; cols = k .cols; t = k .params .t; c = k .params .c; kind = 1; length = length; epoch = epoch; reading = now; state = k .rounding .state }
+plainWith k (CountBased length seen) = plainBy k 0 length 0 seen
+plainWith k (TimeBased length epoch now) = plainBy k 1 length epoch now
 
 abbrev pub plainOf : MicroCm → PlainSketch
 plainOf k = plainWith k (k .clock)

@@ -15,7 +15,9 @@ use sketch::ReadingAnswer;
 use sketch::SketchAnswer;
 ghost use mathlib.Core.Path.{_≡_};
 ghost use Rattle.refusal.specs.Refusals.{numberOf};
-ghost use Rattle.edge_values.specs.Edge.{clockOf, sketchOf, settingsOf, sketchWith, readingAfter, stateAfter, toldOf, changedOf, inPlace, plainOf, watchOf, plainWatch, startOf, watchedOf, askedOf, valueOf, figureOf, verdictOf, auditOf, drawnOf, plainReading};
+ghost use Rattle.edge_values.specs.Edge.{clockOf, sketchOf, plainOf, watchOf, plainWatch, startOf, watchedOf, askedOf};
+ghost use Rattle.edge_values.specs.Edge.{settingsOf, sketchWith, readingAfter, stateAfter, toldOf, changedOf, inPlace};
+ghost use Rattle.edge_values.specs.Edge.{plainReading, valueOf, figureOf, verdictOf, auditOf, drawnOf};
 ghost use Rattle.clock.specs.Clock.{readingOf};
 
 // A sketch as plain numbers. `kind` is 0 for a clock that counts items, 1 for one of time; `reading` is the items seen,
@@ -317,7 +319,8 @@ fn change(answer: SketchAnswer) -> PlainChange
 
 // Puts what a call left where the caller keeps it. A refused call leaves both as they are.
 pub fn put(reading: &mut u64, state: &mut u64, answer: SketchAnswer) -> PlainChange
-    ensures { λ r. ⌜ (r ≡ toldOf answer) × (now (reading .exit) ≡ readingAfter (now (reading .entry)) answer) × (now (state .exit) ≡ stateAfter (now (state .entry)) answer) ⌝ }
+    ensures { λ r. ⌜ (r ≡ toldOf answer) × (now (reading .exit) ≡ readingAfter (now (reading .entry)) answer)
+        × (now (state .exit) ≡ stateAfter (now (state .entry)) answer) ⌝ }
 {
     let told = change(answer);
     let judged = answer.verdict;

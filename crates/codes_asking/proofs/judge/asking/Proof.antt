@@ -1,5 +1,6 @@
 -- `asking`: each way out is the cause that holds first. Assumes nothing.
-use Rattle.codes_asking.proofs.JudgeLaws.{ask-shut, ask-ready, held-below, ask-rows, ask-foreign, ask-many, ask-short, ask-cells, ask-unsound, ask-let-pass}
+use Rattle.codes_asking.proofs.JudgeLaws.{ask-shut, ask-ready, held-below, ask-rows, ask-foreign, ask-many}
+use Rattle.codes_asking.proofs.JudgeLaws.{ask-short, ask-cells, ask-unsound, ask-let-pass}
 use borrow.Author.Needs.{needs}
 use Rattle.codes_asking.proofs.judge.asking.Statement.{statement}
 use Rattle.codes_asking.proofs.judge.asking.Tie as tie
@@ -29,7 +30,15 @@ returns-4 : tie.Need-returns-4
 returns-4 c = search (ask-short, needs)
 
 least-bad-requires : tie.Need-least-bad-requires
-least-bad-requires c κs = record { ready = search (ask-ready, needs); few = search needs; long = search needs; below = held-below _ _ _ _ (c .before .before .before .before .kept-fit .ensures) (c .before .before .before .if2 .left) (c .before .before .if3 .left) }
+least-bad-requires c κs =
+    let few = c .before .before in
+    let fit = few .before in
+    record {
+      ready = search (ask-ready, needs);
+      few = search needs;
+      long = search needs;
+      below = held-below _ _ _ _ (fit .before .kept-fit .ensures) (fit .if2 .left) (few .if3 .left);
+    }
 
 returns-5 : tie.Need-returns-5
 returns-5 c = search (ask-unsound, needs)

@@ -6,7 +6,8 @@ use Rattle.codes_asking.proofs.pass.list_new.Statement.{statement}
 use Rattle.codes_asking.proofs.pass.list_new.Tie as tie
 
 abbrev Inv-loop : tie.InvT-loop
-Inv-loop sketch count columns limits before grid list₀ listed₀ reached₀ code₀ list listed reached code = Passing sketch columns limits grid before list₀ count list listed reached code
+Inv-loop sketch count columns limits before grid list₀ listed₀ reached₀ code₀ list listed reached code =
+    Passing sketch columns limits grid before list₀ count list listed reached code
 
 abbrev μ-loop : tie.MeasureT-loop
 μ-loop sketch count columns limits before grid list₀ listed₀ reached₀ code₀ list listed reached code = count - code
