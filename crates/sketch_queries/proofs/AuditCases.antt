@@ -18,7 +18,9 @@ use Rattle.sketch.proofs.AuditLaws.{audit-told}
 module _ (k : MicroCm) (g : List ℕ) (v : Verdict) (ev : v ≡ sketchVerdict k g) (ok : Bool) (asked : ok ≡ isAccepted v) where
   pub audit-refused : not ok ≡ true → record { verdict = v; audit = finding.Sound } ≡ auditCall k g
   unfolding auditCall
-  audit-refused n = rw (← ev) (ap (λ (f : Finding). record { verdict = v; audit = f }) (sym (refused-leaves v (auditOf k g) finding.Sound (turned-back v ok asked n))))
+  audit-refused n =
+      rw (← ev) (ap (λ (f : Finding). record { verdict = v; audit = f })
+      (sym (refused-leaves v (auditOf k g) finding.Sound (turned-back v ok asked n))))
 
   module _ (a : not ok ≡ false) where
     found : (f : Finding) → f ≡ auditOf k g → record { verdict = v; audit = f } ≡ auditCall k g

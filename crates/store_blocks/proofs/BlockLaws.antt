@@ -13,7 +13,8 @@ use borrow.Author.Tests.{eqb-true, eq-eqb, ne-eqb}
 use Rattle.laws.specs.Bytes.{numberOf, bytesOf}
 use Rattle.laws.proofs.ByteLaws.{bytes-length, bytes-small, number-bytes-small, bytes-number}
 use Rattle.store_blocks.specs.Blocks.{weighedFrom, filled, bodyOf, blockOf, blockPasses, payloadOf}
-use Rattle.store_blocks.proofs.FillLaws.{Small, small-append, small-take, small-drop, filled-length, filled-small, filled-full, drop-at-behind, drop-set-behind}
+use Rattle.store_blocks.proofs.FillLaws.{Small, small-append, small-take, small-drop}
+use Rattle.store_blocks.proofs.FillLaws.{filled-length, filled-small, filled-full, drop-at-behind, drop-set-behind}
 
 -- THE SUM
 pub weighed-cons : (i x : ℕ) (xs : List ℕ) → weighedFrom i (x ∷ xs) ≡ x * (i + 1) + weighedFrom (suc i) xs
@@ -67,7 +68,8 @@ module _ (number : ℕ) (payload : List ℕ) where
   pub block-payload : payloadOf (blockOf number payload) ≡ filled 504 payload
   unfolding blockOf
   block-payload =
-      rw (append-assoc, drop-at (bytesOf 4 number) (filled 504 payload ++ seal) 4 (bytes-length 4 number)) (take-at (filled 504 payload) seal 504 (filled-length 504 payload))
+      rw (append-assoc, drop-at (bytesOf 4 number) (filled 504 payload ++ seal) 4 (bytes-length 4 number))
+      (take-at (filled 504 payload) seal 504 (filled-length 504 payload))
 
   module _ (small : Small payload) where
     body-small : Small (bodyOf number payload)
@@ -116,8 +118,10 @@ module _ (number : ℕ) (b : List ℕ) (long : length b ≡ 512) (passes : block
   pub block-back : Small b → blockOf number (payloadOf b) ≡ b
   unfolding blockOf
   block-back small =
-      let front : bytesOf 4 number ≡ take 4 b = ap (bytesOf 4) (sym number-is) ∙ bytes-number 4 (take 4 b) (simp length-take (omega arith)) (small-take 4 b small) in
+      let first : bytesOf 4 (numberOf (take 4 b)) ≡ take 4 b = bytes-number 4 (take 4 b) (simp length-take (omega arith)) (small-take 4 b small) in
+      let last : bytesOf 4 (numberOf (drop 508 b)) ≡ drop 508 b = bytes-number 4 (drop 508 b) (simp length-drop (omega arith)) (small-drop 508 b small) in
+      let front : bytesOf 4 number ≡ take 4 b = ap (bytesOf 4) (sym number-is) ∙ first in
       let middle : filled 504 (payloadOf b) ≡ payloadOf b = filled-full 504 (payloadOf b) (simp (length-take, length-drop) (omega arith)) in
       let body : bodyOf number (payloadOf b) ≡ take 508 b = ap₂ _++_ front middle ∙ sym (take-add 4 504 b) in
-      let seal : bytesOf 4 (weighedFrom 0 (take 508 b)) ≡ drop 508 b = ap (bytesOf 4) (sym sum-is) ∙ bytes-number 4 (drop 508 b) (simp length-drop (omega arith)) (small-drop 508 b small) in
+      let seal : bytesOf 4 (weighedFrom 0 (take 508 b)) ≡ drop 508 b = ap (bytesOf 4) (sym sum-is) ∙ last in
       rw (body, seal) (take-append-drop 508 b)

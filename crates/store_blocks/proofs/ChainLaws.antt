@@ -9,7 +9,8 @@ use native.Mathlib.Omega.{arith}
 use native.Mathlib.Decide.{decLt}
 use Rattle.laws.proofs.PartLaws.{part-length}
 use Rattle.store_blocks.specs.Blocks.{filled, blockOf, blocksFrom, blockPasses, blocksPass, payloadOf, payloadsOf}
-use Rattle.store_blocks.proofs.FillLaws.{Small, Alike, alike-take, alike-drop, small-take, small-drop, filled-alike, filled-add, drop-at-behind, drop-set-behind}
+use Rattle.store_blocks.proofs.FillLaws.{Small, Alike, alike-take, alike-drop, small-take, small-drop}
+use Rattle.store_blocks.proofs.FillLaws.{filled-alike, filled-add, drop-at-behind, drop-set-behind}
 use Rattle.store_blocks.proofs.BlockLaws.{block-length, block-same, block-payload, block-passes, block-changed, block-back}
 
 pub from-suc : (number count : ℕ) (l : List ℕ) → blocksFrom number (suc count) l ≡ blockOf number (take 504 l) ++ blocksFrom (suc number) count (drop 504 l)
@@ -32,7 +33,8 @@ pub pass-zero : (number : ℕ) (l : List ℕ) → blocksPass number 0 l ≡ true
 unfolding blocksPass
 pass-zero number l = refl
 
-pub pass-suc : (number count : ℕ) (l : List ℕ) → blocksPass number (suc count) l ≡ (blockPasses number (take 512 l) && blocksPass (suc number) count (drop 512 l))
+pub pass-suc : (number count : ℕ) (l : List ℕ)
+    → blocksPass number (suc count) l ≡ (blockPasses number (take 512 l) && blocksPass (suc number) count (drop 512 l))
 unfolding blocksPass
 pass-suc number count l = refl
 
@@ -60,7 +62,8 @@ unfolding blocksPass
 from-passes number zero l s h = refl
 from-passes number (suc count) l s h =
     rw (from-suc number count l, first-taken number (take 504 l), first-dropped number (take 504 l))
-    (ap₂ _&&_ (block-passes number (take 504 l) (small-take 504 l s) (omega arith)) (from-passes (suc number) count (drop 504 l) (small-drop 504 l s) (omega arith)))
+    (ap₂ _&&_ (block-passes number (take 504 l) (small-take 504 l s) (omega arith))
+    (from-passes (suc number) count (drop 504 l) (small-drop 504 l s) (omega arith)))
 
 pub from-payloads : (number count : ℕ) (l : List ℕ) → payloadsOf count (blocksFrom number count l) ≡ filled (504 * count) l
 from-payloads number zero l = payloads-zero (blocksFrom number 0 l)
@@ -82,7 +85,8 @@ pub from-alike : (number count : ℕ) (l m : List ℕ) → Alike l m → blocksF
 unfolding blocksFrom
 from-alike number zero l m a = refl
 from-alike number (suc count) l m a =
-    ap₂ _++_ (block-same number (take 504 l) (take 504 m) (filled-alike 504 (take 504 l) (take 504 m) (alike-take 504 l m a))) (from-alike (suc number) count (drop 504 l) (drop 504 m) (alike-drop 504 l m a))
+    let first = filled-alike 504 (take 504 l) (take 504 m) (alike-take 504 l m a) in
+    ap₂ _++_ (block-same number (take 504 l) (take 504 m) first) (from-alike (suc number) count (drop 504 l) (drop 504 m) (alike-drop 504 l m a))
 
 -- BLOCKS AS THEY ARE READ
 pub payload-length : (l : List ℕ) → 512 ≤ length l → length (payloadOf (take 512 l)) ≡ 504
@@ -118,7 +122,8 @@ payloads-length zero l room = ap length (payloads-zero l)
 payloads-length (suc count) l room =
     let tail : 512 * count ≤ length (drop 512 l) = simp length-drop (omega arith) in
     rw payloads-suc
-    (length-append (payloadOf (take 512 l)) (payloadsOf count (drop 512 l)) ∙ rw (payload-length l (omega arith), payloads-length count (drop 512 l) tail) (omega arith))
+    (length-append (payloadOf (take 512 l)) (payloadsOf count (drop 512 l))
+    ∙ rw (payload-length l (omega arith), payloads-length count (drop 512 l) tail) (omega arith))
 
 -- any one changed byte is refused
 pub blocks-changed : (number count : ℕ) (l : List ℕ) (k v : ℕ) → length l ≡ 512 * count → blocksPass number count l ≡ true

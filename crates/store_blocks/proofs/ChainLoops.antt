@@ -1,4 +1,5 @@
--- A loop over blocks has done those before `start`, and what is left is the same thing of the rest; byte j of what they carry stands in a place that j alone tells.
+-- A loop over blocks has done those before `start`, and what is left is the same thing of the rest; byte j of what they carry stands in
+-- a place that j alone tells.
 use Prim.Native.Nat.{ℕ, zero, suc, _+_, _-_, _*_, _/_, _%_, _≤_, _<_}
 use mathlib.Core.Path.{_≡_, refl, sym, ap, _∙_}
 use mathlib.Core.Bool.{Bool, true, false, not, _&&_}
@@ -51,17 +52,21 @@ module _ (g b₀ : List ℕ) where
           → Filling n g b₀ (take start b ++ (y ++ drop (start + 512 - start) (drop start b))) (left - 1) (number + 1) (start + 512) (at + 504)
       filling-on y whole =
           let e : y ≡ blockOf number (drop at g) = whole ∙ rw (take-all (length g - at) (drop at g) (simp length-drop (omega arith))) in
-          let q : blocksFrom number left (drop at g) ≡ blocksFrom number (suc (left - 1)) (drop at g) = ap (λ (n : ℕ). blocksFrom number n (drop at g)) (omega arith) in
+          let behind = drop at g in
+          let first = take 504 behind in
+          let one : left ≡ suc (left - 1) = omega arith in
           let long : length y ≡ 512 = ap length e ∙ block-length number (drop at g) in
-          let cut : blockOf number (drop at g) ≡ blockOf number (take 504 (drop at g)) =
-          block-same number (drop at g) (take 504 (drop at g)) (filled-is 504 (drop at g) (filled 504 (take 504 (drop at g))) (filled-length 504 (take 504 (drop at g)))
-          (λ i h. sym (filled-at 504 (take 504 (drop at g)) i h ∙ getD-take 504 (drop at g) i 0 h)))
+          let alike : filled 504 behind ≡ filled 504 first =
+          filled-is 504 behind (filled 504 first) (filled-length 504 first) (λ i h. sym (filled-at 504 first i h ∙ getD-take 504 behind i 0 h))
+          in
+          let cut : blockOf number behind ≡ blockOf number first = block-same number behind first alike in
+          let next : blocksFrom number left behind ≡ y ++ blocksFrom (suc number) (left - 1) (drop 504 behind) =
+          ap (λ (n : ℕ). blocksFrom number n behind) one ∙ rw (from-suc number (left - 1), ← cut, ← e)
           in
           rw (add-sub-cancel-left start 512)
           (record {
             done =
-                w .done
-                ∙ rw (q, from-suc number (left - 1), ← cut, ← e, drop-drop 504 at g, splice-taken start 512 y b filling-room long) (simp (add-one, append-assoc));
+                w .done ∙ rw (next, drop-drop 504 at g, splice-taken start 512 y b filling-room long) (simp (add-one, append-assoc));
             same = splice-length start 512 y b filling-room long ∙ w .same;
             room = omega (arith, w .room);
             numbers = omega (arith, w .numbers);
@@ -94,7 +99,10 @@ module _ (l : List ℕ) where
       module _ (r : Bool) (e : r ≡ blockPasses number (take (start + 512 - start) (drop start l))) where
         next : blocksPass 0 (length l / 512) l ≡ (r && blocksPass (suc number) (left - 1) (drop (start + 512) l))
         next =
-            let q : blocksPass number left (drop start l) ≡ blocksPass number (suc (left - 1)) (drop start l) = ap (λ (n : ℕ). blocksPass number n (drop start l)) (omega arith) in
+            let one : left ≡ suc (left - 1) = omega arith in
+            let q : blocksPass number left (drop start l) ≡ blocksPass number (suc (left - 1)) (drop start l) =
+            ap (λ (n : ℕ). blocksPass number n (drop start l)) one
+            in
             let here : blockPasses number (part start 512 l) ≡ r = sym (rw (add-sub-cancel-left start 512) at e) in
             w .done ∙ rw (q, pass-suc, here, drop-drop 512 start l)
 
@@ -152,7 +160,8 @@ module _ (store : List ℕ) where
         (λ i h.
         let i<n : i < n = omega (arith, h, part-length j n (carried store) (omega (arith, carried-length))) in
         let e : j + i + (j + i) / 504 * 8 + 516 ≡ j + j / 504 * 8 + 516 + i = omega arith in
-        part-at j n (carried store) i i<n ∙ carried-at (j + i) (omega arith) ∙ ap (λ (k : ℕ). getD store k 0) e ∙ sym (part-at (j + j / 504 * 8 + 516) n store i i<n))
+        part-at j n (carried store) i i<n ∙ carried-at (j + i) (omega arith) ∙ ap (λ (k : ℕ). getD store k 0) e
+        ∙ sym (part-at (j + j / 504 * 8 + 516) n store i i<n))
 
   -- COPYING OUT, the bytes of one block after those of another
   module _ (at : ℕ) (out₀ : List ℕ) (fits : at + length out₀ ≤ room) where
@@ -219,7 +228,8 @@ module _ (store : List ℕ) where
     behind : drop size (carried store) ≡ part start (length store - 4 - start) store
     behind =
         ext-getD 0 (drop size (carried store)) (part start (length store - 4 - start) store)
-        (length-drop size (carried store) ∙ rw carried-length (sym left-is) ∙ sym (part-length start (length store - 4 - start) store (omega (arith, last-block))))
+        (length-drop size (carried store) ∙ rw carried-length (sym left-is)
+        ∙ sym (part-length start (length store - 4 - start) store (omega (arith, last-block))))
         (λ i h.
         let inside : i < room - size = omega (arith, h, length-drop size (carried store), carried-length) in
         let p : size + i + (size + i) / 504 * 8 + 516 ≡ start + i = omega (arith, room-is) in

@@ -4,7 +4,8 @@ use mathlib.Core.Path.{_≡_, refl, sym, ap, ap₂, _∙_}
 use mathlib.Core.Bool.{true, _&&_, and-eq-true-iff}
 use mathlib.Core.List.{List, [], _∷_, _++_, append-nil}
 use lib.Dec.{eqb}
-use lib.ListN.{length, take, drop, getD, set, replicate, length-take, length-drop, length-append, length-replicate, drop-of-length-le, List·getD-append, List·getD-eq-default}
+use lib.ListN.{length, take, drop, getD, set, replicate, length-take, length-drop, length-append, length-replicate}
+use lib.ListN.{drop-of-length-le, List·getD-append, List·getD-eq-default}
 use lib.Seq.{take-all, take-at, drop-at, drop-drop, ext-getD, getD-take, getD-drop, getD-append-add, drop-set-add}
 use native.Mathlib.Omega.{arith}
 use native.Mathlib.Decide.{decLt}
@@ -109,21 +110,28 @@ module _ (b l : List ℕ) (short : length l < length b) where
   pub front-enough : length (take (length l) b) ≤ length l
   front-enough = omega (arith, front-room)
 
+  -- b with y written in front, and how much room is left behind it
+  abbrev fronted : List ℕ → List ℕ
+  fronted y = y ++ drop (length l) b
+
+  abbrev left : List ℕ → ℕ
+  left y = length (fronted y) - length l
+
   pub filled-behind : (y z : List ℕ) → y ≡ take (length (take (length l) b)) l
-      → z ≡ replicate (length (take (length (y ++ drop (length l) b) - length l) (drop (length l) (y ++ drop (length l) b)))) 0
-      → take (length l) (y ++ drop (length l) b) ++ (z ++ drop (length (y ++ drop (length l) b) - length l) (drop (length l) (y ++ drop (length l) b))) ≡ filled (length b) l
+      → z ≡ replicate (length (take (left y) (drop (length l) (fronted y)))) 0
+      → take (length l) (fronted y) ++ (z ++ drop (left y) (drop (length l) (fronted y))) ≡ filled (length b) l
   filled-behind y z ey ez =
       let n = length b - length l in
       let front : y ≡ l = ey ∙ take-all (length (take (length l) b)) l (omega (arith, front-room)) in
       let rest : length (drop (length l) b) ≡ n = length-drop (length l) b in
-      let left : length (l ++ drop (length l) b) - length l ≡ n = omega (arith, length-append l (drop (length l) b), rest) in
+      let left-is : left l ≡ n = omega (arith, length-append l (drop (length l) b), rest) in
       let behind : drop (length l) (l ++ drop (length l) b) ≡ drop (length l) b = drop-at l (drop (length l) b) (length l) refl in
       let over : length (drop (length l) b) ≤ n = omega (arith, rest) in
       let none : drop n (drop (length l) b) ≡ [] = drop-of-length-le (drop (length l) b) over in
       let room : length (take n (drop (length l) b)) ≡ n = ap length (take-all n (drop (length l) b) over) ∙ rest in
-      let zeros : z ≡ replicate n 0 = ez ∙ rw (front, left, behind, room) in
+      let zeros : z ≡ replicate n 0 = ez ∙ rw (front, left-is, behind, room) in
       let long : length (l ++ replicate n 0) ≡ length b = length-append l (replicate n 0) ∙ simp length-replicate (omega arith) in
-      rw (front, left, behind, none, take-at l (drop (length l) b) (length l) refl, append-nil z, zeros)
+      rw (front, left-is, behind, none, take-at l (drop (length l) b) (length l) refl, append-nil z, zeros)
       (sym (filled-is (length b) l (l ++ replicate n 0) long (λ i h. sym (zeros-alike l n i))))
 
 pub filled-small : (n : ℕ) (l : List ℕ) → Small l → Small (filled n l)

@@ -1,4 +1,5 @@
--- `blocks::bytes::put_number` meets its contract. What stands before i, and the bytes of what is left of the number, make its bytes (`Putting`); the measure is what is left of the room.
+-- `blocks::bytes::put_number` meets its contract. What stands before i, and the bytes of what is left of the number, make its
+-- bytes (`Putting`); the measure is what is left of the room.
 use Rattle.store_blocks.proofs.ByteLoops.{Putting, putting-begin, putting-on, putting-end}
 use Prim.Native.Nat.{_-_}
 use lib.ListN.{length, length-set}

@@ -1,4 +1,5 @@
--- `blocks::chain::write_blocks` meets its contract. The blocks before `start`, and those of the rest, make all of them (`Filling`); the measure is how many are left.
+-- `blocks::chain::write_blocks` meets its contract. The blocks before `start`, and those of the rest, make all of them (`Filling`);
+-- the measure is how many are left.
 use Rattle.store_blocks.proofs.ChainLoops.{Filling, filling-begin, filling-on, filling-end, filling-room, filling-inside, filling-part}
 use Prim.Native.Nat.{_/_}
 use lib.ListN.{length}
