@@ -13,7 +13,7 @@ use Rattle.sketch.proofs.SettingsLaws.{GoodSettings, good-settings}
 use Rattle.store_header.specs.Header.{epochOf}
 use Rattle.clock.specs.Clock.{readingOf}
 use Rattle.sketch.specs.Refusals.{numbersVerdict}
-use Rattle.store.specs.Store.{gridBlocks}
+use Rattle.store.specs.Workers.{gridBlocks}
 use Rattle.store_header.proofs.HeaderLaws.{Fits}
 use Rattle.refusal.proofs.GateLaws.{gate-passed}
 use Rattle.sketch.proofs.SketchGates.{settingsOf, settings-gate}

@@ -10,8 +10,10 @@ use Rattle.laws.proofs.ByteLaws.{bytes-small}
 use Rattle.clock.specs.Clock.{lengthOf, readingOf}
 use Rattle.sketch.specs.declared.MicroCm.{MicroCm}
 use Rattle.store_blocks.specs.Blocks.{filled, blockOf, blocksFrom, blocksPass, carried}
-use Rattle.store_header.specs.Header.{headerOf, kindOf, epochOf, headerWith}
-use Rattle.store.specs.Store.{gridBlocks, storeLength, storeOf, storeWith}
+use Rattle.store_header.specs.Header.{kindOf, epochOf, headerWith}
+use Rattle.store_header.specs.Workers.{headerOf}
+use Rattle.store.specs.Store.{storeLength, storeOf, storeWith}
+use Rattle.store.specs.Workers.{gridBlocks}
 use Rattle.store.specs.Refusals.{headerPayload}
 use Rattle.store_blocks.proofs.FillLaws.{Small, small-append}
 use Rattle.store_blocks.proofs.BlockLaws.{block-length, block-payload, block-passes}

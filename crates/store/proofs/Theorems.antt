@@ -16,8 +16,9 @@ use Rattle.sketch.specs.declared.MicroCm.{MicroCm}
 use Rattle.sketch.specs.Sketch.{gridBytes, allCells}
 use Rattle.sketch.specs.Refusals.{refuseSketch, refuseUnsound, noSketch, sketchOutcome, undrawn, numbersVerdict}
 use Rattle.store_blocks.specs.Blocks.{filled, blockOf, blocksFrom, blockPasses, blocksPass, payloadsOf, carried}
-use Rattle.store_header.specs.Header.{headerOf}
-use Rattle.store.specs.Store.{blocksFor, storeOf, gridBlocks, storeWith}
+use Rattle.store_header.specs.Workers.{headerOf}
+use Rattle.store.specs.Store.{blocksFor, storeOf, storeWith}
+use Rattle.store.specs.Workers.{gridBlocks}
 use Rattle.store.specs.Refusals.{headerPayload, refuseLength, loadVerdict, loadCall, saveVerdict, saveOutcome, saveCall}
 use Rattle.store_blocks.proofs.FillLaws.{Small, small-take, small-drop, filled-full, behind-zero, cut-alike}
 use Rattle.store_blocks.proofs.BlockLaws.{block-same, block-back}

@@ -20,9 +20,6 @@ unfoldable pub storeWith : ℕ → ℕ → MicroCm → List ℕ → List ℕ
 storeWith form size k g = blockOf 0 (headerWith form k) ++ blocksFrom 1 (blocksFor size) g
 
 -- OF THE FORM THAT IS SAVED AND LOADED, with a sketch's own grid
-abbrev pub gridBlocks : MicroCm → ℕ
-gridBlocks k = blocksFor (gridBytes k)
-
 abbrev pub storeLength : MicroCm → ℕ
 storeLength k = storeBytes (gridBytes k)
 

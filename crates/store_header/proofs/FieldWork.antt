@@ -18,9 +18,9 @@ use Rattle.clock.specs.declared.SubWindowClock.the-variants.{CountBased, TimeBa
 use Rattle.clock.specs.Clock.{lengthOf, readingOf}
 use Rattle.sketch.specs.declared.MicroCm.{MicroCm}
 use Rattle.store_blocks.specs.Blocks.{allZero}
-use Rattle.store_header.specs.Header.{kindOf, epochOf, headerOf, fieldOf, clockIn, sketchIn, headerWith}
+use Rattle.store_header.specs.Header.{kindOf, epochOf, fieldOf, clockIn, sketchIn, headerWith}
 use Rattle.store_header.specs.Refusals.{wrongForm, otherForm}
-use Rattle.store_header.specs.Workers.{Put}
+use Rattle.store_header.specs.Workers.{Put, headerOf}
 
 module _ (at width : ℕ) (b : List ℕ) where
   pub field-put : (n : ℕ) (y : List ℕ) → at + width ≤ length b → y ≡ bytesOf (length (take (at + width - at) (drop at b))) n

@@ -17,7 +17,8 @@ use Rattle.clock.specs.declared.SubWindowClock.the-variants.{CountBased, TimeBa
 use Rattle.clock.specs.Clock.{lengthOf, readingOf}
 use Rattle.sketch.specs.declared.MicroCm.{MicroCm}
 use Rattle.store_blocks.specs.Blocks.{filled, allZero}
-use Rattle.store_header.specs.Header.{kindOf, epochOf, headerOf, fieldOf, clockIn, sketchIn, headerWith}
+use Rattle.store_header.specs.Header.{kindOf, epochOf, fieldOf, clockIn, sketchIn, headerWith}
+use Rattle.store_header.specs.Workers.{headerOf}
 use Rattle.store_header.specs.Refusals.{wrongForm, otherForm}
 use Rattle.store_blocks.proofs.FillLaws.{Small, small-take, small-drop, filled-is, cut-alike}
 

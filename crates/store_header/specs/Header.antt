@@ -29,9 +29,6 @@ headerWith form k =
 abbrev pub formNumber : ℕ
 formNumber = 1
 
-abbrev pub headerOf : MicroCm → List ℕ
-headerOf k = headerWith formNumber k
-
 -- READ
 -- a number in a header's payload
 abbrev pub fieldOf : ℕ → ℕ → List ℕ → ℕ

@@ -8,10 +8,10 @@ use store_blocks::bytes;
 ghost use mathlib.Core.Path.{_≡_};
 ghost use Prim.Native.Nat.{_+_, _^_, _<_, _≤_};
 ghost use lib.ListN.{length, take, drop};
-ghost use Rattle.store_header.specs.Header.{kindOf, epochOf, headerOf, fieldOf, clockIn, sketchIn};
+ghost use Rattle.store_header.specs.Header.{kindOf, epochOf, fieldOf, clockIn, sketchIn};
 ghost use Rattle.clock.specs.Clock.{readingOf};
 ghost use Rattle.store_header.specs.Refusals.{wrongForm, headerIn};
-ghost use Rattle.store_header.specs.Workers.{Put};
+ghost use Rattle.store_header.specs.Workers.{Put, headerOf};
 
 // A count clock has no epoch; its field holds this.
 const NO_EPOCH: u64 = 0;
