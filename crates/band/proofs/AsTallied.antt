@@ -9,30 +9,28 @@ use Rattle.refusal.specs.Refusals.{isAccepted, whenAccepted}
 use Rattle.rounding.specs.Draws.{seeded}
 use Rattle.sketch.specs.Sketch.{World}
 use Rattle.sketch.specs.Refusals.{world}
-use Rattle.band.specs.Calls.{Call, Settings, State, fresh, next, run}
+use Rattle.band.specs.Calls.{Call, Settings, fresh, next, run}
 use Rattle.band.specs.Tally.{Tally, accepts, empty, tallied}
 use Rattle.band.specs.Peak.{zoomNow, zoomCrossing, peak}
 use Rattle.band.specs.Band.{AcceptedSettings, after}
-use Rattle.band.proofs.Runs.{stateOf, done, verdictOf, next-is}
+use Rattle.band.proofs.Runs.{sketchOf, stateOf, done, verdictOf, next-is}
 use Rattle.band.proofs.Reached.{Reached, fresh-reached}
 use Rattle.band.proofs.RefusalLaws.{verdict-accepts}
 use Rattle.band.proofs.Steps.{reached-on}
 
 -- where a list ends, and the peak of a cell on the way
 pub record Passage : Type 0 where
-  pub last : State
+  pub last : World
   pub top : ℕ
 
-abbrev stateIn : World → State
-stateIn w = record { sketch = w .sketch; grid = w .grid }
+-- as the next call finds it
+abbrev settled : World → World
+settled w = world (w .sketch) (w .grid)
 
-abbrev doneTo : State → Call → State
-doneTo w call = stateIn (done (world (w .sketch) (w .grid)) call)
-
-unfoldable pub passage : Settings → State → List Call → ℕ → Passage
+unfoldable pub passage : Settings → World → List Call → ℕ → Passage
 passage S w [] j = record { last = w; top = zoomNow (w .sketch) (w .grid) j }
 passage S w (call ∷ calls) j =
-    let p = passage S (cond (accepts S call) (doneTo w call) w) calls j in
+    let p = passage S (cond (accepts S call) (settled (done w call)) w) calls j in
     record {
       last = p .last;
       top = max (zoomNow (w .sketch) (w .grid) j) (max (cond (accepts S call) (zoomCrossing w call j) 0) (p .top));
@@ -43,26 +41,24 @@ by-verdict Accepted done left = refl
 by-verdict (Refused k) done left = refl
 by-verdict (Unsound j) done left = refl
 
--- a choice of worlds is a choice of their states
-state-of-choice : (a : Bool) (x y : World) → stateIn (cond a x y) ≡ cond a (stateIn x) (stateIn y)
-state-of-choice true x y = refl
-state-of-choice false x y = refl
+-- a choice of worlds, settled, is a choice of settled worlds
+settled-choice : (a : Bool) (x y : World) → settled (cond a x y) ≡ cond a (settled x) (settled y)
+settled-choice true x y = refl
+settled-choice false x y = refl
 
 module _ (S : Settings) (ok : AcceptedSettings S) (j : ℕ) where
-  abbrev Same : State → List Call → Type 0
+  abbrev Same : World → List Call → Type 0
   Same w calls = passage S w calls j ≡ record { last = run w calls; top = peak w calls j }
 
   module _ (T : Tally) (σ : ℕ) (g : List ℕ) (h : Reached S T σ g) (call : Call) where
-    abbrev w : State
+    abbrev w : World
     w = stateOf S (T .clock) σ g
 
     judged {ℓ} : {A : Type ℓ} (done left : A) → whenAccepted (verdictOf w call) done left ≡ cond (accepts S call) done left
     judged done left = by-verdict (verdictOf w call) done left ∙ rw (verdict-accepts S ok T σ g h call) refl
 
-    next-judged : next w call ≡ cond (accepts S call) (doneTo w call) w
-    next-judged =
-        let found = world (w .sketch) (w .grid) in
-        next-is w call ∙ rw (judged (done found call) found) (state-of-choice (accepts S call) (done found call) found)
+    next-judged : next w call ≡ cond (accepts S call) (settled (done w call)) w
+    next-judged = next-is (sketchOf S (T .clock) σ) g call ∙ rw (judged (done w call) w) (settled-choice (accepts S call) (done w call) w)
 
   passage-on : (calls : List Call) (T : Tally) (σ : ℕ) (g : List ℕ) → Reached S T σ g → Same (stateOf S (T .clock) σ g) calls
   unfolding passage run peak

@@ -11,9 +11,8 @@ use Rattle.cell.specs.Cell.{maxZoom}
 use Rattle.clock.specs.Clock.{nOf, tickOf, advanceOf}
 use Rattle.clock.proofs.ClockLaws.{advance-grows}
 use Rattle.sketch.specs.Sketch.{cellOf, World, recorded, moved}
-use Rattle.sketch.specs.Refusals.{world}
 use Rattle.sketch.proofs.WorldLaws.{recorded-good, moved-good}
-use Rattle.band.specs.Calls.{Call, update, updateAt, advance, Settings, State, next, run}
+use Rattle.band.specs.Calls.{Call, update, updateAt, advance, Settings, next, run}
 use Rattle.band.specs.Tally.{Tally, accepts, noted, tallied, tallyFrom}
 use Rattle.band.specs.Peak.{zoomNow, zoomCrossing, peak}
 use Rattle.band.specs.Band.{AcceptedSettings}
@@ -30,20 +29,20 @@ pub record Keeps (S : Settings) (M row col : ℕ) (calls : List Call) (T : Tally
   pub below : peak (stateOf S (T .clock) σ g) calls (row * S .cols + col) ≤ M
 
 -- the peak is over the present and what comes
-now-peak : (w : State) (calls : List Call) (j : ℕ) → zoomNow (w .sketch) (w .grid) j ≤ peak w calls j
+now-peak : (w : World) (calls : List Call) (j : ℕ) → zoomNow (w .sketch) (w .grid) j ≤ peak w calls j
 unfolding peak
 now-peak w [] j = omega arith
 now-peak w (call ∷ calls) j = omega arith
 
-next-peak : (w : State) (call : Call) (calls : List Call) (j : ℕ) → peak (next w call) calls j ≤ peak w (call ∷ calls) j
+next-peak : (w : World) (call : Call) (calls : List Call) (j : ℕ) → peak (next w call) calls j ≤ peak w (call ∷ calls) j
 unfolding peak
 next-peak w call calls j = omega arith
 
-inside-peak : (w : State) (call : Call) (calls : List Call) (j : ℕ) → whenAccepted (verdictOf w call) (zoomCrossing w call j) 0 ≤ peak w (call ∷ calls) j
+inside-peak : (w : World) (call : Call) (calls : List Call) (j : ℕ) → whenAccepted (verdictOf w call) (zoomCrossing w call j) 0 ≤ peak w (call ∷ calls) j
 unfolding peak
 inside-peak w call calls j = omega arith
 
-crossing-peak : (w : State) (call : Call) (calls : List Call) (j : ℕ) → verdictOf w call ≡ Accepted → zoomCrossing w call j ≤ peak w (call ∷ calls) j
+crossing-peak : (w : World) (call : Call) (calls : List Call) (j : ℕ) → verdictOf w call ≡ Accepted → zoomCrossing w call j ≤ peak w (call ∷ calls) j
 crossing-peak w call calls j v = rw v at (inside-peak w call calls j)
 
 module _ (S : Settings) (ok : AcceptedSettings S) (M row col : ℕ) (top : M < maxZoom (S .params .c)) (hr : row < S .rows) (hl : col < S .cols) where
@@ -52,11 +51,11 @@ module _ (S : Settings) (ok : AcceptedSettings S) (M row col : ℕ) (top : M < m
 
   module _ (T : Tally) (σ : ℕ) (g : List ℕ) (h : Reached S T σ g) where
     abbrev found : World
-    found = world (sketchOf S (T .clock) σ) g
+    found = stateOf S (T .clock) σ g
 
     -- AN ACCEPTED CALL
     done-holds : (call : Call) → accepts S call ≡ true → Holds (S .params .t) (S .params .c) M (nOf (T .clock)) (T .items row col) (cellOf (found .sketch) g j)
-        → zoomCrossing (stateOf S (T .clock) σ g) call j ≤ M → zoomNow (done found call .sketch) (done found call .grid) j ≤ M
+        → zoomCrossing found call j ≤ M → zoomNow (done found call .sketch) (done found call .grid) j ≤ M
         → Holds (S .params .t) (S .params .c) M (nOf (noted T call .clock)) (noted T call .items row col) (cellOf (found .sketch) (done found call .grid) j)
     unfolding recorded moved noted accepts zoomCrossing zoomNow
     done-holds (update key) e known zc za =
@@ -80,7 +79,7 @@ module _ (S : Settings) (ok : AcceptedSettings S) (M row col : ℕ) (top : M < m
         let w = stateOf S (T .clock) σ g in
         let later : peak (next w call) calls j ≤ M = le-trans (next-peak w call calls j) (k .below) in
         step S ok T σ g h (Keeps S M row col calls) call
-        (λ e v. let to = next-accepted w call v in
+        (λ e v. let to = next-accepted (sketchOf S (T .clock) σ) g call v in
         let below = rw (to, done-sketch S T σ g call) at later in
         record {
           reached = done-reached S ok T σ g h call e;

@@ -17,11 +17,11 @@ use Rattle.cell.specs.Crossing.{closeOf, clearOf, emptied, insideOf, ceilingOf,
 use Rattle.clock.specs.declared.SubWindowClock.{SubWindowClock}
 use Rattle.clock.specs.declared.SubWindowClock.the-variants.{CountBased, TimeBased}
 use Rattle.clock.specs.Clock.{nOf}
-use Rattle.sketch.specs.Sketch.{keyCells, countFrom, insertAt, insertEach, recorded, crossEach, moved}
+use Rattle.sketch.specs.Sketch.{World, keyCells, countFrom, insertAt, insertEach, recorded, crossEach, moved}
 use Rattle.sketch.specs.Figures.{overOf, itemsIn, leastIn, sumBack}
 use Rattle.sketch.specs.Refusals.{bitsUpTo, gridFits, allBelow, keyFits, updateCall, updateAtCall, advanceCall}
 use Rattle.sketch.specs.Audit.{firstUnsound}
-use Rattle.band.specs.Calls.{Call, update, updateAt, advance, Settings, State, fresh, next, run}
+use Rattle.band.specs.Calls.{Call, update, updateAt, advance, Settings, fresh, next, run}
 use Rattle.band.specs.Tally.{accepts, hits, counted, empty, noted, tallied, tallyFrom, tally, exact}
 use Rattle.band.specs.Peak.{zoomNow, zoomInside, zoomCrossing, peak}
 use Rattle.band.specs.Band.{AcceptedSettings, Key, highestHeld, NeverAtTop, covered, bandWidth, overAfter}
@@ -75,7 +75,7 @@ abbrev pub fullCrossing : List Call
 fullCrossing = replicate 511 (updateAt (0 ∷ []) 5) ++ updateAt (0 ∷ 1 ∷ []) 15 ∷ []
 
 -- the highest zoom by another reading: after the calls alone, not inside a crossing
-pub between : State → List Call → ℕ → ℕ
+pub between : World → List Call → ℕ → ℕ
 between w [] j = zoomNow (w .sketch) (w .grid) j
 between w (call ∷ calls) j = max (zoomNow (w .sketch) (w .grid) j) (between (next w call) calls j)
 

@@ -12,14 +12,14 @@ use Rattle.clock.specs.declared.SubWindowClock.the-variants.{CountBased, TimeBa
 use Rattle.clock.specs.Clock.{lengthOf, nOf, isCount, tickOf, advanceOf, startOf}
 use Rattle.clock.proofs.ClockLaws.{Keeps, tick-keeps, advance-keeps, start-keeps, tick-reading, tick-grows}
 use Rattle.sketch.specs.Sketch.{World, recorded, moved}
-use Rattle.sketch.specs.Refusals.{keyFits, world}
+use Rattle.sketch.specs.Refusals.{keyFits}
 use Rattle.sketch.proofs.SettingsLaws.{good-settings}
 use Rattle.laws.proofs.ChoiceLaws.{both-hold}
 use Rattle.sketch.proofs.WorldLaws.{Good, GoodWorld, fresh-good, recorded-good, moved-good, settings-fit}
 use Rattle.band.specs.Calls.{Call, update, updateAt, advance, Settings, fresh}
 use Rattle.band.specs.Tally.{Tally, keyAccepted, accepts, empty, noted}
 use Rattle.band.specs.Band.{AcceptedSettings}
-use Rattle.band.proofs.Runs.{sketchOf, done, done-sketch}
+use Rattle.band.proofs.Runs.{sketchOf, stateOf, done, done-sketch}
 
 -- a count that is a u64
 abbrev pub Counts : SubWindowClock → Type 0
@@ -86,7 +86,7 @@ module _ (S : Settings) (ok : AcceptedSettings S) where
   -- AN ACCEPTED CALL
   module _ (T : Tally) (σ : ℕ) (g : List ℕ) (h : Reached S T σ g) where
     abbrev found : World
-    found = world (sketchOf S (T .clock) σ) g
+    found = stateOf S (T .clock) σ g
 
     abbrev pub found-good : GoodWorld found
     found-good = record { whole = h .good .whole; alive = h .good .alive; sound = h .good .sound }

@@ -11,15 +11,15 @@ use Rattle.clock.specs.declared.SubWindowClock.{SubWindowClock}
 use Rattle.sketch.specs.declared.MicroCm.{MicroCm}
 use Rattle.sketch.specs.Sketch.{World, updated, advanced, updatedAt, recorded, moved}
 use Rattle.sketch.specs.Refusals.{world, updateCall, updateAtCall, advanceCall}
-use Rattle.band.specs.Calls.{Call, update, updateAt, advance, Settings, State, outcome, next, run}
+use Rattle.band.specs.Calls.{Call, update, updateAt, advance, Settings, outcome, next, run}
 use Rattle.band.specs.Tally.{Tally, noted, tallied, tallyFrom}
 
 -- a sketch of these settings, at a clock and a random state
 abbrev pub sketchOf : Settings → SubWindowClock → ℕ → MicroCm
 sketchOf S clock σ = record { rows = S .rows; cols = S .cols; params = S .params; clock = clock; rounding = record { state = σ } }
 
-abbrev pub stateOf : Settings → SubWindowClock → ℕ → List ℕ → State
-stateOf S clock σ g = record { sketch = sketchOf S clock σ; grid = g }
+abbrev pub stateOf : Settings → SubWindowClock → ℕ → List ℕ → World
+stateOf S clock σ g = world (sketchOf S clock σ) g
 
 -- what an accepted call makes of it
 abbrev pub done : World → Call → World
@@ -27,34 +27,34 @@ done w (update key) = updated key w
 done w (updateAt key reading) = updatedAt key reading w
 done w (advance reading) = advanced reading w
 
-abbrev pub verdictOf : State → Call → Verdict
+abbrev pub verdictOf : World → Call → Verdict
 verdictOf w call = outcome w call .answer .verdict
 
-module _ (w : State) where
-  abbrev found : World
-  found = world (w .sketch) (w .grid)
+module _ (k : MicroCm) (g : List ℕ) where
+  abbrev w : World
+  w = world k g
 
-  pub next-is : (call : Call) → next w call ≡ (let after = whenAccepted (verdictOf w call) (done found call) found in record { sketch = after .sketch; grid = after .grid })
+  pub next-is : (call : Call) → next w call ≡ (let after = whenAccepted (verdictOf w call) (done w call) w in world (after .sketch) (after .grid))
   unfolding updateCall updateAtCall advanceCall
   next-is (update key) = refl
   next-is (updateAt key reading) = refl
   next-is (advance reading) = refl
 
-  pub next-accepted : (call : Call) → verdictOf w call ≡ Accepted → next w call ≡ record { sketch = done found call .sketch; grid = done found call .grid }
+  pub next-accepted : (call : Call) → verdictOf w call ≡ Accepted → next w call ≡ world (done w call .sketch) (done w call .grid)
   next-accepted call e = next-is call ∙ rw e refl
 
   pub next-refused : (call : Call) → isAccepted (verdictOf w call) ≡ false → next w call ≡ w
-  next-refused call e = next-is call ∙ rw (refused-leaves (verdictOf w call) (done found call) found e) refl
+  next-refused call e = next-is call ∙ rw (refused-leaves (verdictOf w call) (done w call) w e) refl
 
 -- the sketch goes on with the tally's clock
-pub done-sketch : (S : Settings) (T : Tally) (σ : ℕ) (g : List ℕ) (call : Call) → (let w = done (world (sketchOf S (T .clock) σ) g) call in w .sketch ≡ sketchOf S (noted T call .clock) (w .sketch .rounding .state))
+pub done-sketch : (S : Settings) (T : Tally) (σ : ℕ) (g : List ℕ) (call : Call) → (let w = done (stateOf S (T .clock) σ g) call in w .sketch ≡ sketchOf S (noted T call .clock) (w .sketch .rounding .state))
 unfolding recorded moved noted
 done-sketch S T σ g (update key) = refl
 done-sketch S T σ g (updateAt key reading) = refl
 done-sketch S T σ g (advance reading) = refl
 
 -- a state beside a tally, of which something is known
-pub record Beside (S : Settings) (Known : Tally → ℕ → List ℕ → Type 0) (T : Tally) (w : State) : Type 0 where
+pub record Beside (S : Settings) (Known : Tally → ℕ → List ℕ → Type 0) (T : Tally) (w : World) : Type 0 where
   pub state : ℕ
   pub grid : List ℕ
   pub is : w ≡ stateOf S (T .clock) state grid

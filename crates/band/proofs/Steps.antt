@@ -6,8 +6,6 @@ use mathlib.Core.List.{List}
 use Rattle.refusal.specs.declared.Verdict.the-variants.{Accepted}
 use Rattle.refusal.proofs.VerdictLaws.{accepted-is}
 use Rattle.rounding.specs.Draws.{seeded}
-use Rattle.sketch.specs.Sketch.{World}
-use Rattle.sketch.specs.Refusals.{world}
 use Rattle.band.specs.Calls.{Call, Settings, fresh, next}
 use Rattle.band.specs.Tally.{Tally, accepts, empty, noted, tallied, tally}
 use Rattle.band.specs.Band.{AcceptedSettings, after}
@@ -18,11 +16,8 @@ use Rattle.band.proofs.RefusalLaws.{verdict-accepts}
 module _ (S : Settings) (ok : AcceptedSettings S) where
   -- ANY CALL, where each of its two cases has what is to be known
   module _ (T : Tally) (σ : ℕ) (g : List ℕ) (h : Reached S T σ g) where
-    abbrev found : World
-    found = world (sketchOf S (T .clock) σ) g
-
     pub step : (Known : Tally → ℕ → List ℕ → Type 0) (call : Call)
-        → (accepts S call ≡ true → verdictOf (stateOf S (T .clock) σ g) call ≡ Accepted → (let w = done found call in Known (noted T call) (w .sketch .rounding .state) (w .grid)))
+        → (accepts S call ≡ true → verdictOf (stateOf S (T .clock) σ g) call ≡ Accepted → (let w = done (stateOf S (T .clock) σ g) call in Known (noted T call) (w .sketch .rounding .state) (w .grid)))
         → (next (stateOf S (T .clock) σ g) call ≡ stateOf S (T .clock) σ g → Known T σ g)
         → Beside S Known (tallied S T call) (next (stateOf S (T .clock) σ g) call)
     unfolding tallied
@@ -31,15 +26,15 @@ module _ (S : Settings) (ok : AcceptedSettings S) where
         by : (a : Bool) → accepts S call ≡ a → Beside S Known (cond a (noted T call) T) (next (stateOf S (T .clock) σ g) call)
         by true e =
             let v = accepted-is (verdictOf (stateOf S (T .clock) σ g) call) (verdict-accepts S ok T σ g h call ∙ e) in
-            let w = done found call in
+            let w = done (stateOf S (T .clock) σ g) call in
             record {
               state = w .sketch .rounding .state;
               grid = w .grid;
-              is = next-accepted (stateOf S (T .clock) σ g) call v ∙ rw (done-sketch S T σ g call) refl;
+              is = next-accepted (sketchOf S (T .clock) σ) g call v ∙ rw (done-sketch S T σ g call) refl;
               known = taken e v;
             }
         by false e =
-            let same = next-refused (stateOf S (T .clock) σ g) call (verdict-accepts S ok T σ g h call ∙ e) in
+            let same = next-refused (sketchOf S (T .clock) σ) g call (verdict-accepts S ok T σ g h call ∙ e) in
             record { state = σ; grid = g; is = same; known = left same }
 
   pub reached-on : (call : Call) (calls : List Call) (T : Tally) (σ : ℕ) (g : List ℕ) → Reached S T σ g → Beside S (Reached S) (tallied S T call) (next (stateOf S (T .clock) σ g) call)

@@ -8,9 +8,10 @@ use Rattle.laws.specs.Sums.{largest}
 use Rattle.laws.specs.Within.{Within}
 use Rattle.cell.specs.Cell.{maxZoom}
 use Rattle.clock.specs.Clock.{nOf}
+use Rattle.sketch.specs.Sketch.{World}
 use Rattle.sketch.specs.Figures.{overOf}
 use Rattle.sketch.specs.Refusals.{refuseSettings}
-use Rattle.band.specs.Calls.{Call, Settings, State, fresh, run}
+use Rattle.band.specs.Calls.{Call, Settings, fresh, run}
 use Rattle.band.specs.Tally.{Tally, tally, exact}
 use Rattle.band.specs.Peak.{peak}
 
@@ -24,7 +25,7 @@ pub record Key (S : Settings) (key : List ℕ) : Type 0 where
   pub each-low : (row : ℕ) → row < S .rows → getD key row 0 < S .cols
 
 -- the sketch and its grid after the calls
-abbrev pub after : Settings → ℕ → List Call → State
+abbrev pub after : Settings → ℕ → List Call → World
 after S seed calls = run (fresh S seed) calls
 
 -- the highest zoom that the key's cell in a row ever held

@@ -11,8 +11,7 @@ use Rattle.clock.specs.declared.SubWindowClock.{SubWindowClock}
 use Rattle.clock.specs.Clock.{nOf, tickOf, advanceOf, crossedOf}
 use Rattle.sketch.specs.declared.MicroCm.{MicroCm}
 use Rattle.sketch.specs.Sketch.{cellOf, crossCell, World, recorded}
-use Rattle.sketch.specs.Refusals.{world}
-use Rattle.band.specs.Calls.{Call, update, updateAt, advance, State, outcome, next}
+use Rattle.band.specs.Calls.{Call, update, updateAt, advance, outcome, next}
 
 -- the zoom of the j-th cell
 unfoldable pub zoomNow : MicroCm → List ℕ → ℕ → ℕ
@@ -30,13 +29,13 @@ zoomInside w clock j =
     cond (eqb crossed 0) (zoomNow k (w .grid) j) (zoomOf t (insideOf t c n crossed (cellOf k (w .grid) j) σ .bytes))
 
 -- the same for an accepted call
-unfoldable pub zoomCrossing : State → Call → ℕ → ℕ
-zoomCrossing w (update key) j = zoomInside (recorded key (world (w .sketch) (w .grid))) (tickOf (w .sketch .clock)) j
-zoomCrossing w (updateAt key reading) j = zoomInside (world (w .sketch) (w .grid)) (advanceOf (w .sketch .clock) reading) j
-zoomCrossing w (advance reading) j = zoomInside (world (w .sketch) (w .grid)) (advanceOf (w .sketch .clock) reading) j
+unfoldable pub zoomCrossing : World → Call → ℕ → ℕ
+zoomCrossing w (update key) j = zoomInside (recorded key w) (tickOf (w .sketch .clock)) j
+zoomCrossing w (updateAt key reading) j = zoomInside w (advanceOf (w .sketch .clock) reading) j
+zoomCrossing w (advance reading) j = zoomInside w (advanceOf (w .sketch .clock) reading) j
 
 -- THE HIGHEST ZOOM of the j-th cell: now, inside the crossing of each accepted call, and after each call
-unfoldable pub peak : State → List Call → ℕ → ℕ
+unfoldable pub peak : World → List Call → ℕ → ℕ
 peak w [] j = zoomNow (w .sketch) (w .grid) j
 peak w (call ∷ calls) j =
     max (zoomNow (w .sketch) (w .grid) j)
