@@ -1,6 +1,6 @@
 -- DEMAND 3. Each cell of the key holds the tally's numbers; per sub-window the minimum across rows keeps the distance, and the sum adds the distances up.
 use Prim.Native.Nat.{ℕ, _+_, _-_, _*_, _^_, _≤_, _<_, min}
-use mathlib.Core.Path.{_≡_, refl, ap}
+use mathlib.Core.Path.{_≡_, refl}
 use mathlib.Core.List.{List}
 use lib.Arith.{digits-lt}
 use lib.ListN.{getD}
@@ -10,7 +10,6 @@ use borrow.Author.Tests.{eq-eqb, ne-eqb}
 use Rattle.laws.specs.Sums.{least, largest}
 use Rattle.laws.specs.Within.{Within}
 use Rattle.laws.proofs.SumLaws.{least-within, le-largest, largest-lt, total-within}
-use Rattle.rounding.specs.Draws.{seeded}
 use Rattle.cell.specs.Cell.{zoomAt, zoomOf, maxZoom}
 use Rattle.cell.proofs.PowerLaws.{zoom-below}
 use Rattle.clock.specs.Clock.{nOf}
@@ -26,8 +25,7 @@ use Rattle.band.specs.Tally.{Tally, empty, tally, exact}
 use Rattle.band.specs.Peak.{peak}
 use Rattle.band.specs.Band.{AcceptedSettings, Key, after, peakIn, highestHeld, NeverAtTop, covered, bandWidth, overAfter, Demand3}
 use Rattle.band.proofs.CellHistory.{Holds}
-use Rattle.band.proofs.Runs.{sketchOf}
-use Rattle.band.proofs.Reached.{fit, fresh-reached}
+use Rattle.band.proofs.Reached.{sketchOf, fit, sketch-is, fresh-reached}
 use Rattle.band.proofs.Steps.{reached}
 use Rattle.band.proofs.CellKept.{Keeps, run-keeps}
 use Rattle.band.proofs.History as H
@@ -57,14 +55,15 @@ module _ (t c M n : ℕ) (x : ℕ → ℕ) (b : List ℕ) (h : Holds t c M n x b
       rw (ne-eqb j n (λ e. omega arith)) (record { low = omega (arith, one, p .low); high = omega (arith, one, p .high) })
 
 -- A FRESH SKETCH: nothing is recorded, and every byte is 0
-fresh-keeps : (S : Settings) → AcceptedSettings S → (M row col seed : ℕ) (calls : List Call) → row < S .rows → col < S .cols → peak (fresh S seed) calls (row * S .cols + col) ≤ M → Keeps S M row col calls (empty S) (seeded seed) (fresh S seed .grid)
+fresh-keeps : (S : Settings) → AcceptedSettings S → (M row col seed : ℕ) (calls : List Call) → row < S .rows → col < S .cols
+    → peak (fresh S seed) calls (row * S .cols + col) ≤ M → Keeps S M row col calls (empty S) (fresh S seed)
 unfolding empty
 fresh-keeps S ok M row col seed calls hr hl l =
     let k = fresh S seed .sketch in
     let g = fresh S seed .grid in
     let j = row * S .cols + col in
     let r = fresh-reached S ok seed in
-    let long = cell-length k g j (good-room k g (seeded seed) (r .good)) (digits-lt hr hl) in
+    let long = cell-length k g j (good-room k g (k .rounding .state) (r .good)) (digits-lt hr hl) in
     record {
       reached = r;
       holds = rw (start-n (S .clock))
@@ -99,20 +98,23 @@ module _ (S : Settings) (ok : AcceptedSettings S) (seed : ℕ) (calls : List Cal
   low = largest-lt (S .rows - 1) (maxZoom c) (peakIn S seed calls key) (λ row l. never row (omega (arith, some)))
 
   abbrev k : MicroCm
-  k = sketchOf S (T .clock) (reached S ok seed calls .state)
+  k = sketchOf S (T .clock) (after S seed calls .sketch .rounding .state)
 
   abbrev cellIn : ℕ → List ℕ
   cellIn row = cellOf k (after S seed calls .grid) (row * S .cols + getD key row 0)
 
+  -- it is the one that the calls left
+  left : after S seed calls .sketch ≡ k
+  left = sketch-is S T (after S seed calls) (reached S ok seed calls)
+
   -- EACH CELL of the key holds the tally's numbers
   holds : (row : ℕ) → row < S .rows → Holds t c M n (T .items row (getD key row 0)) (cellIn row)
-  unfolding empty
   holds row h =
       let col = getD key row 0 in
       let l = right .each-low row h in
-      let b = run-keeps S ok M row col low h l calls (empty S) (seeded seed) (fresh S seed .grid)
-      (fresh-keeps S ok M row col seed calls h l (le-largest (S .rows - 1) (peakIn S seed calls key) row (omega arith))) in
-      rw (b .is) (b .known .holds)
+      let most = le-largest (S .rows - 1) (peakIn S seed calls key) row (omega arith) in
+      let start = fresh S seed in
+      rw left at (run-keeps S ok M row col low h l calls (empty S) (start .sketch) (start .grid) (fresh-keeps S ok M row col seed calls h l most) .holds)
 
   -- EACH SUB-WINDOW: the minimum across rows, as the sketch says and as it was
   abbrev said : ℕ → ℕ
@@ -140,9 +142,8 @@ module _ (S : Settings) (ok : AcceptedSettings S) (seed : ℕ) (calls : List Cal
   pub sum-within : Within (bandWidth (covered S T) c M) (overAfter S seed calls key) (exact S T key)
   unfolding sumBack leastIn exact
   sum-within =
-      let sketch : after S seed calls .sketch ≡ k = ap (λ w. w .sketch) (reached S ok seed calls .is) in
       let near = total-within (min n t) (c ^ M - 1) said was near-now near-past in
-      rw sketch (record { low = omega (arith, near .low, wide-enough); high = omega (arith, near .high, wide-enough) })
+      rw left (record { low = omega (arith, near .low, wide-enough); high = omega (arith, near .high, wide-enough) })
 
 -- THE THEOREM
 pub band : Demand3
@@ -167,5 +168,6 @@ band-exact S ok seed calls key right e =
     let top : 1 ≤ maxZoom (S .params .c) = zoom-below (S .params .c) (good .fit .c-low) 1 (omega (arith, good .fit .c-high)) in
     let never : NeverAtTop S seed calls key = λ row h. omega (arith, le-largest (S .rows - 1) (peakIn S seed calls key) row (omega arith)) in
     let b = band S ok seed calls key right never in
-    let z : bandWidth (covered S (tally S calls)) (S .params .c) (highestHeld S seed calls key) ≡ 0 = rw (e, pow-zero (S .params .c)) (mul-zero (2 * covered S (tally S calls) - 1)) in
+    let z : bandWidth (covered S (tally S calls)) (S .params .c) (highestHeld S seed calls key) ≡ 0 =
+    rw (e, pow-zero (S .params .c)) (mul-zero (2 * covered S (tally S calls) - 1)) in
     omega (arith, b .low, b .high)

@@ -63,6 +63,17 @@ module _ (t c slot P : ℕ) (b : List ℕ) (σ : ℕ) (fit : Fit t c (length b))
       Kept : Step → Type 0
       Kept s = zoomOf t (s .bytes) ≤ P → F (zoomOf t (s .bytes)) (pixelOf (s .bytes))
 
+-- AN INSERTION never lowers the zoom
+pub insert-rises : (t c n : ℕ) (b : List ℕ) (σ : ℕ) → Fit t c (length b) → zoomOf t b ≤ zoomOf t (insertOf t c n b σ .bytes)
+unfolding insertOf
+insert-rises t c n b σ fit =
+    let zeroed = withShutter t 0 b in
+    let credit = creditOf t c (slotOf t n) zeroed σ in
+    let kept : Fit t c (length zeroed) = rw (with-shutter-kept t 0 b (fit .size-is) .long) fit in
+    either (λ (s : Step). zoomOf t b ≤ zoomOf t (s .bytes)) (ltb (shutterOf t b + 1) (unitOf t c b)) (still (withShutter t (shutterOf t b + 1) b) σ) credit
+    (λ e. omega (arith, with-shutter-zoom t (shutterOf t b + 1) b (fit .size-is)))
+    (λ e. omega (arith, with-shutter-zoom t 0 b (fit .size-is), credited t c (slotOf t n) zeroed σ kept (slot-inside t n) .zoom-ge))
+
 -- WHAT A CELL HOLDS at sub-window n, of a history x, its zoom at most P
 pub record Holds (t c P n : ℕ) (x : ℕ → ℕ) (b : List ℕ) : Type 0 where
   pub fit : Fit t c (length b)

@@ -1,6 +1,6 @@
--- One fixed cell over a list of calls, with the peak of the whole list as its bound: each call keeps what the cell knows of the tally's numbers.
-use Prim.Native.Nat.{ℕ, _+_, _*_, _≤_, _<_}
-use mathlib.Core.Path.{_≡_}
+-- One fixed cell over a list of calls, with the peak of the whole list as its bound: each stage keeps what the cell knows of the tally's numbers.
+use Prim.Native.Nat.{ℕ, _+_, _*_, _≤_, _<_, max}
+use mathlib.Core.Path.{_≡_, refl}
 use mathlib.Core.Bool.{true}
 use mathlib.Core.List.{List, [], _∷_}
 use native.Mathlib.Omega.{arith}
@@ -8,28 +8,34 @@ use native.Mathlib.Nat.{le-trans}
 use Rattle.refusal.specs.declared.Verdict.the-variants.{Accepted}
 use Rattle.refusal.specs.Refusals.{whenAccepted}
 use Rattle.cell.specs.Cell.{maxZoom}
-use Rattle.clock.specs.Clock.{nOf, tickOf, advanceOf}
-use Rattle.clock.proofs.ClockLaws.{advance-grows}
-use Rattle.sketch.specs.Sketch.{cellOf, World, recorded, moved}
-use Rattle.sketch.proofs.WorldLaws.{recorded-good, moved-good}
-use Rattle.band.specs.Calls.{Call, update, updateAt, advance, Settings, next, run}
-use Rattle.band.specs.Tally.{Tally, accepts, noted, tallied, tallyFrom}
-use Rattle.band.specs.Peak.{zoomNow, zoomCrossing, peak}
+use Rattle.sketch.specs.declared.MicroCm.{MicroCm}
+use Rattle.sketch.specs.Sketch.{cellIndex, World}
+use Rattle.sketch.specs.Refusals.{world}
+use Rattle.band.specs.Calls.{Call, Settings, next, run}
+use Rattle.band.specs.Stages.{Stage, stagesOf, done, through}
+use Rattle.band.specs.Tally.{Tally, accepts, marked, noted, tallied, tallyFrom}
+use Rattle.band.specs.Peak.{zoomNow, zoomThrough, zoomCrossing, peak}
 use Rattle.band.specs.Band.{AcceptedSettings}
-use Rattle.band.proofs.CellHistory.{Holds}
-use Rattle.band.proofs.CallHistory.{moved-holds, now-inside, recorded-holds}
-use Rattle.band.proofs.Runs.{sketchOf, stateOf, done, verdictOf, next-accepted, done-sketch, Beside, run-on}
-use Rattle.band.proofs.Reached.{Reached, fit, counts-grows, key-fits, found-good, done-reached}
+use Rattle.band.proofs.Runs.{verdictOf, called, settled, next-accepted, through-on, run-on}
+use Rattle.band.proofs.Reached.{AllRight, Reached, Coming, fits, coming-on, stages-as-tallied, call-coming, called-reached}
+use Rattle.band.proofs.StageHistory.{Placed, HoldsAt, stage-holds, stage-rises}
 use Rattle.band.proofs.Steps.{step}
 
 -- the cell at a row and a column holds the tally's numbers there, and its peak over the calls to come is at most M
-pub record Keeps (S : Settings) (M row col : ℕ) (calls : List Call) (T : Tally) (σ : ℕ) (g : List ℕ) : Type 0 where
-  pub reached : Reached S T σ g
-  pub holds : Holds (S .params .t) (S .params .c) M (nOf (T .clock)) (T .items row col) (cellOf (sketchOf S (T .clock) σ) g (row * S .cols + col))
-  pub below : peak (stateOf S (T .clock) σ g) calls (row * S .cols + col) ≤ M
+pub record Keeps (S : Settings) (M row col : ℕ) (calls : List Call) (T : Tally) (w : World) : Type 0 where
+  pub reached : Reached S T w
+  pub holds : HoldsAt M (row * S .cols + col) (T .items row col) w
+  pub below : peak w calls (row * S .cols + col) ≤ M
+
+-- the same with stages to come: inside them and after them its zoom is at most M
+record KeepsOn (S : Settings) (M row col : ℕ) (stages : List Stage) (T : Tally) (w : World) : Type 0 where
+  coming : Coming S stages T w
+  holds : HoldsAt M (row * S .cols + col) (T .items row col) w
+  inside : zoomThrough w stages (row * S .cols + col) ≤ M
+  after : zoomNow (through stages w) (row * S .cols + col) ≤ M
 
 -- the peak is over the present and what comes
-now-peak : (w : World) (calls : List Call) (j : ℕ) → zoomNow (w .sketch) (w .grid) j ≤ peak w calls j
+now-peak : (w : World) (calls : List Call) (j : ℕ) → zoomNow w j ≤ peak w calls j
 unfolding peak
 now-peak w [] j = omega arith
 now-peak w (call ∷ calls) j = omega arith
@@ -38,7 +44,8 @@ next-peak : (w : World) (call : Call) (calls : List Call) (j : ℕ) → peak (ne
 unfolding peak
 next-peak w call calls j = omega arith
 
-inside-peak : (w : World) (call : Call) (calls : List Call) (j : ℕ) → whenAccepted (verdictOf w call) (zoomCrossing w call j) 0 ≤ peak w (call ∷ calls) j
+inside-peak : (w : World) (call : Call) (calls : List Call) (j : ℕ)
+    → whenAccepted (verdictOf w call) (zoomCrossing w call j) 0 ≤ peak w (call ∷ calls) j
 unfolding peak
 inside-peak w call calls j = omega arith
 
@@ -49,45 +56,64 @@ module _ (S : Settings) (ok : AcceptedSettings S) (M row col : ℕ) (top : M < m
   abbrev j : ℕ
   j = row * S .cols + col
 
-  module _ (T : Tally) (σ : ℕ) (g : List ℕ) (h : Reached S T σ g) where
-    abbrev found : World
-    found = stateOf S (T .clock) σ g
+  module _ (T : Tally) (w : World) (h : Reached S T w) where
+    placed : Placed row col w
+    placed = record { fits = fits S ok T w h; good = h .good; in-rows = rw (h .settings) hr; in-cols = rw (h .settings) hl }
+
+    place : cellIndex (w .sketch) row col ≡ j
+    place = rw (h .settings) refl
+
+    below-top : M < maxZoom (w .sketch .params .c)
+    below-top = rw (h .settings) top
+
+  -- the zoom falls inside a stage only: so it is no higher than what is held inside the stages to come or after them
+  rises : (stages : List Stage) (T : Tally) (w : World) → Coming S stages T w → zoomNow w j ≤ max (zoomThrough w stages j) (zoomNow (through stages w) j)
+  unfolding AllRight zoomThrough through
+  rises [] T w h = omega arith
+  rises (stage ∷ stages) T w h =
+      let here = rw (place T w (h .reached)) at (stage-rises row col w (placed T w (h .reached)) stage (h .right .0)) in
+      omega (arith, here, rises stages (marked T stage) (done stage w) (coming-on S ok stage stages T w h))
+
+  -- A STAGE
+  keeps-stage : (stage : Stage) (stages : List Stage) (T : Tally) (w : World) → KeepsOn S M row col (stage ∷ stages) T w
+      → KeepsOn S M row col stages (marked T stage) (done stage w)
+  unfolding AllRight zoomThrough through
+  keeps-stage stage stages T w h =
+      let r = h .coming .reached in
+      let to = coming-on S ok stage stages T w (h .coming) in
+      let law = rw (place T w r) at (stage-holds row col w (placed T w r) (below-top T w r) T (r .clock) stage (h .coming .right .0)) in
+      record {
+        coming = to;
+        holds = law (h .holds) (omega (arith, h .inside)) (omega (arith, h .inside, h .after, rises stages (marked T stage) (done stage w) to));
+        inside = omega (arith, h .inside);
+        after = h .after;
+      }
+
+  module _ (T : Tally) (k : MicroCm) (g : List ℕ) (h : Reached S T (world k g)) where
+    abbrev w : World
+    w = world k g
 
     -- AN ACCEPTED CALL
-    done-holds : (call : Call) → accepts S call ≡ true → Holds (S .params .t) (S .params .c) M (nOf (T .clock)) (T .items row col) (cellOf (found .sketch) g j)
-        → zoomCrossing found call j ≤ M → zoomNow (done found call .sketch) (done found call .grid) j ≤ M
-        → Holds (S .params .t) (S .params .c) M (nOf (noted T call .clock)) (noted T call .items row col) (cellOf (found .sketch) (done found call .grid) j)
-    unfolding recorded moved noted accepts zoomCrossing zoomNow
-    done-holds (update key) e known zc za =
-        let fits = key-fits S ok (T .clock) σ key _ e in
-        let r = recorded key found in
-        let good = recorded-good found (fit S ok) (found-good S ok T σ g h) key fits in
-        let zr = le-trans (now-inside M row col r (fit S ok) good top hr hl (tickOf (T .clock))) zc in
-        moved-holds M row col r (fit S ok) good top hr hl (tickOf (T .clock)) (counts-grows (T .clock) (h .counts))
-        (recorded-holds M row col found (fit S ok) (found-good S ok T σ g h) top hr hl key fits (T .items) known zr) zc
-    done-holds (updateAt key reading) e known zc za =
-        let clock = advanceOf (T .clock) reading in
-        let m = moved clock found in
-        recorded-holds M row col m (fit S ok) (moved-good found (fit S ok) (found-good S ok T σ g h) clock) top hr hl key (key-fits S ok clock _ key _ e) (T .items)
-        (moved-holds M row col found (fit S ok) (found-good S ok T σ g h) top hr hl clock (advance-grows (T .clock) reading) known zc) za
-    done-holds (advance reading) e known zc za =
-        moved-holds M row col found (fit S ok) (found-good S ok T σ g h) top hr hl (advanceOf (T .clock) reading) (advance-grows (T .clock) reading) known zc
+    called-holds : (call : Call) → accepts S call ≡ true → HoldsAt M j (T .items row col) w → zoomCrossing w call j ≤ M → zoomNow (called call w) j ≤ M
+        → HoldsAt M j (noted T call .items row col) (called call w)
+    called-holds call e known inside after =
+        rw (← stages-as-tallied S ok T w h call)
+        (through-on (KeepsOn S M row col) keeps-stage (stagesOf (k .clock) call) T w
+        (record { coming = call-coming S ok T w h call e; holds = known; inside = inside; after = after }) .holds)
 
     -- ANY CALL
-    keeps-on : (call : Call) (calls : List Call) → Keeps S M row col (call ∷ calls) T σ g → Beside S (Keeps S M row col calls) (tallied S T call) (next (stateOf S (T .clock) σ g) call)
-    keeps-on call calls k =
-        let w = stateOf S (T .clock) σ g in
-        let later : peak (next w call) calls j ≤ M = le-trans (next-peak w call calls j) (k .below) in
-        step S ok T σ g h (Keeps S M row col calls) call
-        (λ e v. let to = next-accepted (sketchOf S (T .clock) σ) g call v in
-        let below = rw (to, done-sketch S T σ g call) at later in
-        record {
-          reached = done-reached S ok T σ g h call e;
-          holds = done-holds call e (k .holds) (le-trans (crossing-peak w call calls j v) (k .below)) (le-trans (now-peak _ calls j) (rw to at later));
-          below = below;
-        })
-        (λ same. record { reached = h; holds = k .holds; below = rw same at later })
+    keeps-call : (call : Call) (calls : List Call) → Keeps S M row col (call ∷ calls) T w → Keeps S M row col calls (tallied S T call) (next w call)
+    unfolding zoomNow
+    keeps-call call calls h' =
+        let later : peak (next w call) calls j ≤ M = le-trans (next-peak w call calls j) (h' .below) in
+        step S ok T k g h (Keeps S M row col calls) call
+        (λ e v. let below = rw (next-accepted k g call v) at later in
+        let inside = le-trans (crossing-peak w call calls j v) (h' .below) in
+        let after = le-trans (now-peak (settled (called call w)) calls j) below in
+        record { reached = called-reached S ok T w h call e; holds = called-holds call e (h' .holds) inside after; below = below })
+        (λ same. record { reached = h; holds = h' .holds; below = rw same at later })
 
   -- THE LIST
-  pub run-keeps : (calls : List Call) (T : Tally) (σ : ℕ) (g : List ℕ) → Keeps S M row col calls T σ g → Beside S (Keeps S M row col []) (tallyFrom S T calls) (run (stateOf S (T .clock) σ g) calls)
-  run-keeps = run-on S (Keeps S M row col) (λ call calls T σ g k. keeps-on T σ g (k .reached) call calls k)
+  pub run-keeps : (calls : List Call) (T : Tally) (k : MicroCm) (g : List ℕ) → Keeps S M row col calls T (world k g)
+      → Keeps S M row col [] (tallyFrom S T calls) (run (world k g) calls)
+  run-keeps = run-on S (Keeps S M row col) (λ call calls T k g h. keeps-call T k g (h .reached) call calls h)

@@ -126,3 +126,7 @@ module _ {t c P n : ℕ} {x : ℕ → ℕ} {b : List ℕ} (top : P < maxZoom c) 
       either (λ (s : Step). Holds t c P (n + k) x (s .bytes)) (eqb k 0) (still b σ) (leaving inside (zoomInOf t c (inside .bytes)))
       (λ e. rw (eqb-true k 0 e, add-zero n) h)
       (λ e. let ne = eqb-false k 0 e in zoom-in-holds top (zoomOf t (inside .bytes)) (inside .bytes) (inside-begun (omega arith) (l ne)))
+
+  -- to a sub-window that is named otherwise
+  pub cross-to : (n' : ℕ) → n + k ≡ n' → ((k ≡ 0 → ⊥) → zoomOf t (insideOf t c n' k b σ .bytes) ≤ P) → Holds t c P n' x (crossOf t c n' k b σ .bytes)
+  cross-to n' e = rw (sym e) cross-holds

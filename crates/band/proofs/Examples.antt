@@ -22,8 +22,9 @@ use Rattle.sketch.specs.Figures.{overOf, itemsIn, leastIn, sumBack}
 use Rattle.sketch.specs.Refusals.{bitsUpTo, gridFits, allBelow, keyFits, updateCall, updateAtCall, advanceCall}
 use Rattle.sketch.specs.Audit.{firstUnsound}
 use Rattle.band.specs.Calls.{Call, update, updateAt, advance, Settings, fresh, next, run}
-use Rattle.band.specs.Tally.{accepts, hits, counted, empty, noted, tallied, tallyFrom, tally, exact}
-use Rattle.band.specs.Peak.{zoomNow, zoomInside, zoomCrossing, peak}
+use Rattle.band.specs.Tally.{accepts, hits, counted, empty, markedEach, tallied, tallyFrom, tally, exact}
+use Rattle.band.specs.Stages.{through}
+use Rattle.band.specs.Peak.{zoomNow, zoomInside, zoomThrough, peak}
 use Rattle.band.specs.Band.{AcceptedSettings, Key, highestHeld, NeverAtTop, covered, bandWidth, overAfter}
 use Rattle.band.proofs.AsTallied.{passage, passage-is}
 use Rattle.band.proofs.Band.{band}
@@ -76,13 +77,13 @@ fullCrossing = replicate 511 (updateAt (0 ∷ []) 5) ++ updateAt (0 ∷ 1 ∷ []
 
 -- the highest zoom by another reading: after the calls alone, not inside a crossing
 pub between : World → List Call → ℕ → ℕ
-between w [] j = zoomNow (w .sketch) (w .grid) j
-between w (call ∷ calls) j = max (zoomNow (w .sketch) (w .grid) j) (between (next w call) calls j)
+between w [] j = zoomNow w j
+between w (call ∷ calls) j = max (zoomNow w j) (between (next w call) calls j)
 
 -- the figures of the key 0 in one row: Over, the exact figure, k and M. Each call is judged by the tally's test alone, so that a long list can be computed;
 -- what is unfolded here is unfolded for all examples
 unfoldable figures : ℕ → ℕ → SubWindowClock → ℕ → List Call → ℕ × ℕ × ℕ × ℕ
-unfolding passage highest numberOf bytesOf eachOf least largest total seeded xorDown xorUp nextState yielded roundedDiv shutterOf withShutter maxZoom soundOf divideEach zoomOutOf creditOf insertOf closeOf clearOf emptied insideOf ceilingOf allAtMost timesEach zoomedIn zoomInFrom crossOf nOf keyCells countFrom insertAt insertEach recorded crossEach moved itemsIn leastIn sumBack bitsUpTo gridFits allBelow keyFits updateCall updateAtCall advanceCall firstUnsound accepts hits counted empty noted tallied tallyFrom exact zoomNow zoomInside zoomCrossing
+unfolding passage highest numberOf bytesOf eachOf least largest total seeded xorDown xorUp nextState yielded roundedDiv shutterOf withShutter maxZoom soundOf divideEach zoomOutOf creditOf insertOf closeOf clearOf emptied insideOf ceilingOf allAtMost timesEach zoomedIn zoomInFrom crossOf nOf keyCells countFrom insertAt insertEach recorded crossEach moved itemsIn leastIn sumBack bitsUpTo gridFits allBelow keyFits updateCall updateAtCall advanceCall firstUnsound accepts hits counted empty markedEach tallied tallyFrom exact through zoomNow zoomInside zoomThrough
 figures t c clock seed calls =
     let S = oneRow t c clock in
     let way = passage S (fresh S seed) calls 0 in

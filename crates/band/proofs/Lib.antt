@@ -5,9 +5,9 @@ pub mod CellHistory
 pub mod PixelLaws
 pub mod CrossingHistory
 pub mod TallyLaws
-pub mod CallHistory
 pub mod Runs
 pub mod Reached
+pub mod StageHistory
 pub mod RefusalLaws
 pub mod Steps
 pub mod AsTallied

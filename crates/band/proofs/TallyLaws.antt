@@ -16,13 +16,13 @@ hits-is [] row col h = absurd (omega arith)
 hits-is (x ∷ key) zero col h = refl
 hits-is (x ∷ key) (suc row) col h = hits-is key row col (omega arith)
 
-module _ (n : ℕ) (key : List ℕ) (items : ℕ → ℕ → ℕ → ℕ) (row : ℕ) (inside : row < length key) where
-  pub counted-hit : OneMore n (items row (getD key row 0)) (counted n key items row (getD key row 0))
+module _ (n : ℕ) (key : List ℕ) (items : ℕ → ℕ → ℕ → ℕ) (row col : ℕ) (inside : row < length key) where
+  pub counted-hit : getD key row 0 ≡ col → OneMore n (items row col) (counted n key items row col)
   unfolding counted
-  counted-hit =
-      let e : hits key row (getD key row 0) ≡ true = hits-is key row (getD key row 0) inside ∙ eq-eqb (getD key row 0) (getD key row 0) refl in
+  counted-hit is =
+      let e : hits key row col ≡ true = hits-is key row col inside ∙ eq-eqb (getD key row 0) col is in
       record { here = rw (e, eq-eqb n n refl) refl; elsewhere = λ j ne. rw (e, ne-eqb j n ne) refl }
 
-  pub counted-miss : (col : ℕ) → (getD key row 0 ≡ col → ⊥) → counted n key items row col ≡ items row col
+  pub counted-miss : (getD key row 0 ≡ col → ⊥) → counted n key items row col ≡ items row col
   unfolding counted
-  counted-miss col ne = fun-ext (λ j. rw (hits-is key row col inside, ne-eqb (getD key row 0) col ne) refl)
+  counted-miss ne = fun-ext (λ j. rw (hits-is key row col inside, ne-eqb (getD key row 0) col ne) refl)

@@ -1,4 +1,5 @@
 pub mod Calls
+pub mod Stages
 pub mod Tally
 pub mod Peak
 pub mod Band

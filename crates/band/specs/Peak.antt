@@ -7,36 +7,40 @@ use Rattle.refusal.specs.Refusals.{whenAccepted}
 use Rattle.laws.specs.Passes.{eachOf}
 use Rattle.cell.specs.Cell.{depthOf, zoomOf}
 use Rattle.cell.specs.Crossing.{insideOf}
-use Rattle.clock.specs.declared.SubWindowClock.{SubWindowClock}
-use Rattle.clock.specs.Clock.{nOf, tickOf, advanceOf, crossedOf}
-use Rattle.sketch.specs.declared.MicroCm.{MicroCm}
-use Rattle.sketch.specs.Sketch.{cellOf, crossCell, World, recorded}
-use Rattle.band.specs.Calls.{Call, update, updateAt, advance, outcome, next}
+use Rattle.clock.specs.Clock.{nOf, crossedOf}
+use Rattle.sketch.specs.Sketch.{cellOf, crossCell, World}
+use Rattle.band.specs.Calls.{Call, outcome, next}
+use Rattle.band.specs.Stages.{Stage, recording, moving, stagesOf, done}
 
 -- the zoom of the j-th cell
-unfoldable pub zoomNow : MicroCm → List ℕ → ℕ → ℕ
-zoomNow k g j = zoomOf (k .params .t) (cellOf k g j)
+unfoldable pub zoomNow : World → ℕ → ℕ
+zoomNow w j = zoomOf (w .sketch .params .t) (cellOf (w .sketch) (w .grid) j)
 
--- the zoom that the j-th cell holds inside the crossing to this clock; it draws from the state that the j cells before it left
-unfoldable pub zoomInside : World → SubWindowClock → ℕ → ℕ
-zoomInside w clock j =
+-- the zoom that the j-th cell holds inside a stage. In a move that is inside its crossing; it draws from the state that the j cells before it left.
+-- A recording has none: what it leaves is held inside the crossing that follows, or after the call
+unfoldable pub zoomInside : World → Stage → ℕ → ℕ
+zoomInside w (recording key) j = 0
+zoomInside w (moving clock) j =
     let k = w .sketch in
     let t = k .params .t in
     let c = k .params .c in
     let n = nOf clock in
     let crossed = crossedOf (k .clock) clock in
     let σ = eachOf (crossCell k n crossed) (depthOf t) 0 j (w .grid) (k .rounding .state) .state in
-    cond (eqb crossed 0) (zoomNow k (w .grid) j) (zoomOf t (insideOf t c n crossed (cellOf k (w .grid) j) σ .bytes))
+    cond (eqb crossed 0) (zoomNow w j) (zoomOf t (insideOf t c n crossed (cellOf k (w .grid) j) σ .bytes))
 
--- the same for an accepted call
-unfoldable pub zoomCrossing : World → Call → ℕ → ℕ
-zoomCrossing w (update key) j = zoomInside (recorded key w) (tickOf (w .sketch .clock)) j
-zoomCrossing w (updateAt key reading) j = zoomInside w (advanceOf (w .sketch .clock) reading) j
-zoomCrossing w (advance reading) j = zoomInside w (advanceOf (w .sketch .clock) reading) j
+-- the highest that it holds inside these stages
+unfoldable pub zoomThrough : World → List Stage → ℕ → ℕ
+zoomThrough w [] j = 0
+zoomThrough w (stage ∷ stages) j = max (zoomInside w stage j) (zoomThrough (done stage w) stages j)
+
+-- and inside an accepted call
+abbrev pub zoomCrossing : World → Call → ℕ → ℕ
+zoomCrossing w call j = zoomThrough w (stagesOf (w .sketch .clock) call) j
 
 -- THE HIGHEST ZOOM of the j-th cell: now, inside the crossing of each accepted call, and after each call
 unfoldable pub peak : World → List Call → ℕ → ℕ
-peak w [] j = zoomNow (w .sketch) (w .grid) j
+peak w [] j = zoomNow w j
 peak w (call ∷ calls) j =
-    max (zoomNow (w .sketch) (w .grid) j)
+    max (zoomNow w j)
     (max (whenAccepted (outcome w call .answer .verdict) (zoomCrossing w call j) 0) (peak (next w call) calls j))

@@ -6,9 +6,10 @@ use lib.Dec.{eqb}
 use lib.ListN.{length, getD}
 use Rattle.laws.specs.Sums.{least, total}
 use Rattle.clock.specs.declared.SubWindowClock.{SubWindowClock}
-use Rattle.clock.specs.Clock.{nOf, isCount, tickOf, advanceOf, startOf}
+use Rattle.clock.specs.Clock.{nOf, isCount, startOf}
 use Rattle.sketch.specs.Refusals.{allBelow}
 use Rattle.band.specs.Calls.{Call, update, updateAt, advance, Settings}
+use Rattle.band.specs.Stages.{Stage, recording, moving, stagesOf}
 
 -- a clock of its own, and for each row, column and sub-window a whole number without upper limit
 pub record Tally : Type 0 where
@@ -38,12 +39,18 @@ counted n key items row col j = cond (hits key row col && eqb j n) (items row co
 unfoldable pub empty : Settings → Tally
 empty S = record { clock = startOf (S .clock); items = λ row col j. 0 }
 
--- an accepted call: `update` counts at the present n and then ticks; `update_at` moves the clock first; an advance moves it alone
-unfoldable pub noted : Tally → Call → Tally
-noted T (update key) = record { clock = tickOf (T .clock); items = counted (nOf (T .clock)) key (T .items) }
-noted T (updateAt key reading) =
-    let clock = advanceOf (T .clock) reading in record { clock = clock; items = counted (nOf clock) key (T .items) }
-noted T (advance reading) = record { clock = advanceOf (T .clock) reading; items = T .items }
+-- a recording counts at the present n; a move is of the clock alone
+abbrev pub marked : Tally → Stage → Tally
+marked T (recording key) = record { clock = T .clock; items = counted (nOf (T .clock)) key (T .items) }
+marked T (moving clock) = record { clock = clock; items = T .items }
+
+unfoldable pub markedEach : Tally → List Stage → Tally
+markedEach T [] = T
+markedEach T (stage ∷ stages) = markedEach (marked T stage) stages
+
+-- an accepted call: its stages, from the tally's own clock
+abbrev pub noted : Tally → Call → Tally
+noted T call = markedEach T (stagesOf (T .clock) call)
 
 -- a refused call changes nothing
 unfoldable pub tallied : Settings → Tally → Call → Tally
