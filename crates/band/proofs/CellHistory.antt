@@ -35,16 +35,19 @@ module _ (t c slot P : ℕ) (b : List ℕ) (σ : ℕ) (fit : Fit t c (length b))
     elsewhere = λ k ne. getD-set-other b slot k (pixelOf b slot + 1) 0 ne;
   }
 
+  abbrev zoomed : List ℕ
+  zoomed = zoomOutOf t c slot b σ .bytes
+
   -- ZOOM-OUT divides each of them
-  out-divides : 255 ≤ pixelOf b slot → H.Divides t c (pixelOf bumped) (pixelOf (zoomOutOf t c slot b σ .bytes))
+  out-divides : 255 ≤ pixelOf b slot → H.Divides t c (pixelOf bumped) (pixelOf zoomed)
   out-divides full i l =
       let e : 256 ≡ pixelOf b slot + 1 = omega (arith, small slot) in
       let px : set (pixelsIn t b) slot 256 ≡ pixelsIn t bumped = rw e (sym (take-set-lt (pixelsOf t) b slot (pixelOf b slot + 1) inside)) in
       let long : length (pixelsIn t bumped) ≡ pixelsOf t = length-take-le (pixelsOf t) bumped (simp length-set (omega (arith, fit .size-is))) in
       let r : Rounded c (getD (pixelsIn t bumped) i 0) (getD (divideEach c (pixelsIn t bumped) σ .bytes) i 0) =
       divide-each c (Rounded c) (λ v τ. rounded v c (omega (arith, fit .c-low)) τ) (pixelsIn t bumped) σ i (rw long l) in
-      let q : pixelOf (zoomOutOf t c slot b σ .bytes) i ≡ getD (divideEach c (pixelsIn t bumped) σ .bytes) i 0 =
-      sym (getD-take (pixelsOf t) (zoomOutOf t c slot b σ .bytes) i 0 l) ∙ rw (zoom-out-pixels t c slot b σ fit, px) refl in
+      let q : pixelOf zoomed i ≡ getD (divideEach c (pixelsIn t bumped) σ .bytes) i 0 =
+      sym (getD-take (pixelsOf t) zoomed i 0 l) ∙ rw (zoom-out-pixels t c slot b σ fit, px) refl in
       rw q (rw (getD-take (pixelsOf t) bumped i 0 l) at r)
 
   pub credit-keeps : zoomOf t b < maxZoom c → (F : ℕ → (ℕ → ℕ) → Type 0)
@@ -56,8 +59,8 @@ module _ (t c slot P : ℕ) (b : List ℕ) (σ : ℕ) (fit : Fit t c (length b))
       either Kept (ltb (pixelOf b slot) 255) (still bumped σ) (cond (ltb (zoomOf t b) (maxZoom c)) (zoomOutOf t c slot b σ) (still b σ))
       (λ e l. rw (with-pixel-zoom t slot (pixelOf b slot + 1) b inside) (more (pixelOf bumped) bumped-is))
       (λ e. either Kept (ltb (zoomOf t b) (maxZoom c)) (zoomOutOf t c slot b σ) (still b σ)
-      (λ e' l. let z : zoomOf t (zoomOutOf t c slot b σ .bytes) ≡ suc (zoomOf t b) = zoom-out-zoom t c slot b σ fit ∙ add-one (zoomOf t b) in
-      rw z (out (pixelOf bumped) (pixelOf (zoomOutOf t c slot b σ .bytes)) (more (pixelOf bumped) bumped-is) (rw z at l) (out-divides (ltb-false (pixelOf b slot) 255 e))))
+      (λ e' l. let z : zoomOf t zoomed ≡ suc (zoomOf t b) = zoom-out-zoom t c slot b σ fit ∙ add-one (zoomOf t b) in
+      rw z (out (pixelOf bumped) (pixelOf zoomed) (more (pixelOf bumped) bumped-is) (rw z at l) (out-divides (ltb-false (pixelOf b slot) 255 e))))
       (λ e' l. absurd (omega (arith, ltb-false (zoomOf t b) (maxZoom c) e'))))
     where
       Kept : Step → Type 0
@@ -122,12 +125,13 @@ module _ {t c P n : ℕ} {x : ℕ → ℕ} {b : List ℕ} (top : P < maxZoom c) 
           fit = rw (cr .kept .long) zeroed-fit;
           small = cr .kept .small zeroed-small;
           known = rw (cr .shutter, zeroed-shutter)
-              (credit-keeps t c (slotOf t n) P (withShutter t 0 b) σ zeroed-fit zeroed-small (slot-inside t n) (omega (arith, zeroed-known .zoom)) (λ Z p. H.Open t c P n x' Z 0 p)
-              (λ p m. H.insert-credit (h .fit .c-low) zeroed-known a (rw z l) m) (λ p q o room d. H.open-out (h .fit .c-low) o room d) most);
+              (credit-keeps t c (slotOf t n) P (withShutter t 0 b) σ zeroed-fit zeroed-small (slot-inside t n) (omega (arith, zeroed-known .zoom))
+              (λ Z p. H.Open t c P n x' Z 0 p) (λ p m. H.insert-credit (h .fit .c-low) zeroed-known a (rw z l) m)
+              (λ p q o room d. H.open-out (h .fit .c-low) o room d) most);
         }
 
     pub insert-holds : zoomOf t (insertOf t c n b σ .bytes) ≤ P → Holds t c P n x' (insertOf t c n b σ .bytes)
     unfolding insertOf
     insert-holds =
-        either (λ (s : Step). zoomOf t (s .bytes) ≤ P → Holds t c P n x' (s .bytes)) (ltb (shutterOf t b + 1) (unitOf t c b)) (still (withShutter t (shutterOf t b + 1) b) σ) credit
-        (λ e l. moved (ltb-true _ _ e)) (λ e l. full (ltb-false _ _ e) l)
+        either (λ (s : Step). zoomOf t (s .bytes) ≤ P → Holds t c P n x' (s .bytes)) (ltb (shutterOf t b + 1) (unitOf t c b))
+        (still (withShutter t (shutterOf t b + 1) b) σ) credit (λ e l. moved (ltb-true _ _ e)) (λ e l. full (ltb-false _ _ e) l)

@@ -49,7 +49,8 @@ module _ {t c P n : ℕ} {x : ℕ → ℕ} {b : List ℕ} (top : P < maxZoom c) 
 
   up : (coin .value ≡ 0 → ⊥) → Closed (creditOf t c (slotOf t n) (withShutter t 0 b) (coin .state))
   up ne =
-      credit-keeps t c (slotOf t n) P (withShutter t 0 b) (coin .state) (zeroed-fit top h) (zeroed-small top h) (slot-inside t n) (omega (arith, zeroed-known top h .zoom)) (λ Z p. H.Shut t c P n x Z p)
+      credit-keeps t c (slotOf t n) P (withShutter t 0 b) (coin .state) (zeroed-fit top h) (zeroed-small top h) (slot-inside t n)
+      (omega (arith, zeroed-known top h .zoom)) (λ Z p. H.Shut t c P n x Z p)
       (λ p m. H.shut-up (h .fit .c-low) (zeroed-known top h) (not-empty ne) m) (λ p q o room d. H.shut-out (h .fit .c-low) o room d)
 
   pub close-holds : Closed (closeOf t c (slotOf t n) b σ)
@@ -59,7 +60,8 @@ module _ {t c P n : ℕ} {x : ℕ → ℕ} {b : List ℕ} (top : P < maxZoom c) 
       (later (coin .draws) (creditOf t c (slotOf t n) (withShutter t 0 b) (coin .state))) (λ e l. down) (λ e. up (eqb-false _ _ e))
 
 -- CLEAR, of k sub-windows
-clear-known : {t c P n k : ℕ} {x : ℕ → ℕ} (b : List ℕ) → Fit t c (length b) → 0 < k → k < pixelsOf t → H.Shut t c P n x (zoomOf t b) (pixelOf b) → H.Fresh t c P (n + k) x (zoomOf t b) (pixelOf (clearOf t k (n + 1) b))
+clear-known : {t c P n k : ℕ} {x : ℕ → ℕ} (b : List ℕ) → Fit t c (length b) → 0 < k → k < pixelsOf t
+    → H.Shut t c P n x (zoomOf t b) (pixelOf b) → H.Fresh t c P (n + k) x (zoomOf t b) (pixelOf (clearOf t k (n + 1) b))
 clear-known {t} {c} {P} {n} {k} b fit some few h =
     H.cleared (fit .c-low) h (omega arith) (omega arith)
     (λ j lo hi. clear-here t k (n + 1) b j (omega (arith, fit .size-is)) (omega arith) (omega arith))

@@ -83,15 +83,18 @@ between w (call ∷ calls) j = max (zoomNow w j) (between (next w call) calls j)
 -- the figures of the key 0 in one row: Over, the exact figure, k and M. Each call is judged by the tally's test alone, so that a long list can be computed;
 -- what is unfolded here is unfolded for all examples
 unfoldable figures : ℕ → ℕ → SubWindowClock → ℕ → List Call → ℕ × ℕ × ℕ × ℕ
-unfolding passage highest numberOf bytesOf eachOf least largest total seeded xorDown xorUp nextState yielded roundedDiv shutterOf withShutter maxZoom soundOf divideEach zoomOutOf creditOf insertOf closeOf clearOf emptied insideOf ceilingOf allAtMost timesEach zoomedIn zoomInFrom crossOf nOf keyCells countFrom insertAt insertEach recorded crossEach moved itemsIn leastIn sumBack bitsUpTo gridFits allBelow keyFits updateCall updateAtCall advanceCall firstUnsound accepts hits counted empty markedEach tallied tallyFrom exact through zoomNow zoomInside zoomThrough
+unfolding passage highest numberOf bytesOf eachOf least largest total seeded xorDown xorUp nextState yielded roundedDiv
+    shutterOf withShutter maxZoom soundOf divideEach zoomOutOf creditOf insertOf closeOf clearOf emptied insideOf ceilingOf allAtMost timesEach zoomedIn
+    zoomInFrom crossOf nOf keyCells countFrom insertAt insertEach recorded crossEach moved itemsIn leastIn sumBack bitsUpTo gridFits allBelow keyFits
+    updateCall updateAtCall advanceCall firstUnsound accepts hits counted empty markedEach tallied tallyFrom exact through zoomNow zoomInside zoomThrough
 figures t c clock seed calls =
     let S = oneRow t c clock in
     let way = passage S (fresh S seed) calls 0 in
     let T = tally S calls in
     (overOf (way .last .sketch) (way .last .grid) (0 ∷ []), exact S T (0 ∷ []), covered S T, way .top)
 
-shown : (t c : ℕ) (clock : SubWindowClock) (seed : ℕ) (calls : List Call) → AcceptedSettings (oneRow t c clock) → (over was k M : ℕ) → figures t c clock seed calls ≡ (over, was, k, M)
-    → Shows (oneRow t c clock) seed calls (0 ∷ []) over was k M
+shown : (t c : ℕ) (clock : SubWindowClock) (seed : ℕ) (calls : List Call) → AcceptedSettings (oneRow t c clock) → (over was k M : ℕ)
+    → figures t c clock seed calls ≡ (over, was, k, M) → Shows (oneRow t c clock) seed calls (0 ∷ []) over was k M
 unfolding figures
 shown t c clock seed calls ok over was k M e =
     let is = passage-is (oneRow t c clock) ok 0 seed calls in

@@ -79,7 +79,8 @@ module _ {t c P n : ℕ} (hc : 2 ≤ c) where
   }
 
   -- INSERTION that credits the present pixel
-  pub insert-credit : {x x' : ℕ → ℕ} {Z s : ℕ} {p p' : ℕ → ℕ} → Open t c P n x Z s p → OneMore n x x' → c ^ Z ≤ s + 1 → OneMore (slotOf t n) p p' → Open t c P n x' Z 0 p'
+  pub insert-credit : {x x' : ℕ → ℕ} {Z s : ℕ} {p p' : ℕ → ℕ} → Open t c P n x Z s p → OneMore n x x' → c ^ Z ≤ s + 1
+      → OneMore (slotOf t n) p p' → Open t c P n x' Z 0 p'
   insert-credit {x} {x'} {Z} {s} {p} {p'} h a full b =
       let e : c ^ Z * p' (slotOf t n) ≡ c ^ Z * p (slotOf t n) + c ^ Z = rw (b .here) (mul-add (c ^ Z) (p (slotOf t n)) 1 ∙ rw (mul-one (c ^ Z)) refl) in
       record {
@@ -105,7 +106,8 @@ module _ {t c P n : ℕ} (hc : 2 ≤ c) where
   shut-out h room r = record { zoom = room; past = λ j l k. past-out room (r (slotOf t j) (slot-inside t j)) (h .past j l k); none = h .none }
 
   -- CLOSE: what was past stays, and the present becomes so
-  closed : {x : ℕ → ℕ} {Z s : ℕ} {p p' : ℕ → ℕ} → Open t c P n x Z s p → ((k : ℕ) → (k ≡ slotOf t n → ⊥) → p' k ≡ p k) → Past c P Z (p' (slotOf t n)) (x n) → Shut t c P n x Z p'
+  closed : {x : ℕ → ℕ} {Z s : ℕ} {p p' : ℕ → ℕ} → Open t c P n x Z s p → ((k : ℕ) → (k ≡ slotOf t n → ⊥) → p' k ≡ p k)
+      → Past c P Z (p' (slotOf t n)) (x n) → Shut t c P n x Z p'
   closed {x} {Z} {s} {p} {p'} h same last = record { zoom = h .zoom; past = λ j l k. by j k (decLt j n) l; none = h .none }
     where
       by : (j : ℕ) → n ≤ j + t → Dec (j < n) → j ≤ n → Past c P Z (p' (slotOf t j)) (x j)
@@ -137,7 +139,8 @@ module _ {t c P n : ℕ} (hc : 2 ≤ c) where
           rw e (h .past j (omega arith) (omega arith))
 
   -- A FAR JUMP, of t + 2 or more: all is 0
-  pub jumped : {n' : ℕ} {x : ℕ → ℕ} {Z s : ℕ} {p q : ℕ → ℕ} → Open t c P n x Z s p → n + pixelsOf t ≤ n' → ((i : ℕ) → i < pixelsOf t → q i ≡ 0) → Fresh t c P n' x Z q
+  pub jumped : {n' : ℕ} {x : ℕ → ℕ} {Z s : ℕ} {p q : ℕ → ℕ} → Open t c P n x Z s p → n + pixelsOf t ≤ n'
+      → ((i : ℕ) → i < pixelsOf t → q i ≡ 0) → Fresh t c P n' x Z q
   jumped {n'} h l zeros = record {
     zoom = h .zoom;
     clear = zeros (slotOf t n') (slot-inside t n');

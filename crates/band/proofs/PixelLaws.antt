@@ -15,7 +15,8 @@ use Rattle.cell.proofs.CellLaws.{slot-inside, with-zoom-pixel, with-pixels-pixe
 
 -- CLEAR: a slot that is none of those cleared stays
 module _ (t : ℕ) where
-  pub clear-other : (k first : ℕ) (b : List ℕ) (i : ℕ) → ((j : ℕ) → first ≤ j → j < first + k → i ≡ slotOf t j → ⊥) → pixelOf (clearOf t k first b) i ≡ pixelOf b i
+  pub clear-other : (k first : ℕ) (b : List ℕ) (i : ℕ) → ((j : ℕ) → first ≤ j → j < first + k → i ≡ slotOf t j → ⊥)
+      → pixelOf (clearOf t k first b) i ≡ pixelOf b i
   unfolding clearOf
   clear-other zero first b i h = refl
   clear-other (suc k) first b i h =
@@ -42,10 +43,14 @@ module _ (t : ℕ) where
       next : List ℕ
       next = withPixel (slotOf t first) 0 b
 
-      by : Dec (j ≡ first) → ((j ≡ first → ⊥) → pixelOf (clearOf t k (first + 1) (withPixel (slotOf t first) 0 b)) (slotOf t j) ≡ 0) → pixelOf (clearOf t k (first + 1) (withPixel (slotOf t first) 0 b)) (slotOf t j) ≡ 0
+      Cleared : Type 0
+      Cleared = pixelOf (clearOf t k (first + 1) next) (slotOf t j) ≡ 0
+
+      by : Dec (j ≡ first) → ((j ≡ first → ⊥) → Cleared) → Cleared
       by (yes e) f =
           let inside = slot-inside t first in
-          rw e (clear-zero k (first + 1) (withPixel (slotOf t first) 0 b) (slotOf t first) (rw (length-set b (slotOf t first) 0) (omega arith)) (getD-set-same b (slotOf t first) 0 0 (omega arith)))
+          let here : pixelOf next (slotOf t first) ≡ 0 = getD-set-same b (slotOf t first) 0 0 (omega arith) in
+          rw e (clear-zero k (first + 1) next (slotOf t first) (rw (length-set b (slotOf t first) 0) (omega arith)) here)
       by (no ne) f = f ne
 
 -- THE FAR JUMP leaves the zoom and no pixel

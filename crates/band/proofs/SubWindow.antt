@@ -2,7 +2,8 @@
 -- Strict inequalities stand in for "unit − 1", so that no difference is ever cut off at 0.
 use Prim.Native.Nat.{ℕ, zero, suc, _+_, _*_, _^_, _≤_, _<_}
 use mathlib.Core.Path.{_≡_, refl, _∙_}
-use native.Mathlib.Nat.{mul-le-mul-left, mul-add, mul-one, mul-assoc, mul-comm, mul-left-comm, mul-zero, one-mul, pow-suc, pow-zero, pow-succ', one-le-pow, pow-le-pow-right, add-zero}
+use native.Mathlib.Nat.{mul-le-mul-left, mul-add, mul-one, mul-assoc, mul-comm, mul-left-comm, mul-zero, one-mul, add-zero}
+use native.Mathlib.Nat.{pow-suc, pow-zero, pow-succ', one-le-pow, pow-le-pow-right}
 use native.Mathlib.Omega.{arith}
 
 -- the present sub-window, at the unit c ^ Z: shutter and pixel are within c ^ Z − 1 of y
@@ -66,7 +67,8 @@ module _ {c P Z v q y : ℕ} (room : suc Z ≤ P) (r : Rounded c v q) where
       let e = pow-suc c Z in
       past-here room (rw e (omega (arith, spread-low (c ^ Z) c v q (r .low)))) (rw e (omega (arith, spread-high (c ^ Z) c v q (r .high))))
 
-  out-exact : (e m : ℕ) → Z + suc e ≤ P → v ≡ c ^ suc e * m → c ^ Z * v + 1 < y + (c ^ (Z + suc e) + c ^ P) → y + 1 < c ^ Z * v + (c ^ (Z + suc e) + c ^ P) → Past c P (suc Z) q y
+  out-exact : (e m : ℕ) → Z + suc e ≤ P → v ≡ c ^ suc e * m
+      → c ^ Z * v + 1 < y + (c ^ (Z + suc e) + c ^ P) → y + 1 < c ^ Z * v + (c ^ (Z + suc e) + c ^ P) → Past c P (suc Z) q y
   out-exact e m level whole low high =
       let w : v ≡ c * (c ^ e * m) = whole ∙ rw (pow-succ' c e) (mul-assoc c (c ^ e) m) in
       let eq : q ≡ c ^ e * m = r .exact (c ^ e * m) w in
@@ -77,7 +79,8 @@ module _ {c P Z v q y : ℕ} (room : suc Z ≤ P) (r : Rounded c v q) where
   pub past-out : Past c P Z v y → Past c P (suc Z) q y
   past-out h = go (h .extra) (h .level) (h .whole) (h .low) (h .high)
     where
-      go : (e : ℕ) → Z + e ≤ P → v ≡ c ^ e * h .parts → c ^ Z * v + 1 < y + (c ^ (Z + e) + c ^ P) → y + 1 < c ^ Z * v + (c ^ (Z + e) + c ^ P) → Past c P (suc Z) q y
+      go : (e : ℕ) → Z + e ≤ P → v ≡ c ^ e * h .parts
+          → c ^ Z * v + 1 < y + (c ^ (Z + e) + c ^ P) → y + 1 < c ^ Z * v + (c ^ (Z + e) + c ^ P) → Past c P (suc Z) q y
       go zero level whole low high = out-rounded (rw (add-zero Z) at low) (rw (add-zero Z) at high)
       go (suc e) level whole low high = out-exact e (h .parts) level whole low high
 
