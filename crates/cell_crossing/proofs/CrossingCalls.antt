@@ -53,7 +53,8 @@ nine-passed m n crossed e h = go (ltb n crossed) refl
         absurd (true≢false (sym (simp (lt-ltb 0 crossed some, lt-ltb crossed m h, q)) ∙ e))
 
 -- JUDGED
-module _ (p : MicroParams) (n crossed : ℕ) (b : List ℕ) (σ : ℕ) (v : Verdict) (judged : v ≡ beforeCell p σ (length b) Accepted) (ok : Bool) (asked : ok ≡ isAccepted v) where
+module _ (p : MicroParams) (n crossed : ℕ) (b : List ℕ) (σ : ℕ) (v : Verdict) (judged : v ≡ beforeCell p σ (length b) Accepted)
+    (ok : Bool) (asked : ok ≡ isAccepted v) where
   pub cross-opened-out : not ok ≡ true → CrossingHeld p n crossed b σ (record { verdict = v; shutter = 0; unit = 0 })
   cross-opened-out h =
       let never : v ≡ Accepted → ⊥ = refused-never v (turned-back v ok asked h) in
@@ -65,7 +66,8 @@ module _ (p : MicroParams) (n crossed : ℕ) (b : List ℕ) (σ : ℕ) (v : Verd
 
     module _ (nine : Bool) (is : nine ≡ (ltb 0 crossed && ltb crossed (pixelsOf (p .t)) && ltb n crossed)) where
       -- 9 told in front of what the cell's judge says after 1, 2, 5 and 6
-      pub cross-held : (r : Held) → HeldOf p b σ r → (w : Verdict) → w ≡ refuse 9 nine (r .verdict) → CrossingHeld p n crossed b σ (record { verdict = w; shutter = r .shutter; unit = r .unit })
+      pub cross-held : (r : Held) → HeldOf p b σ r → (w : Verdict) → w ≡ refuse 9 nine (r .verdict)
+          → CrossingHeld p n crossed b σ (record { verdict = w; shutter = r .shutter; unit = r .unit })
       cross-held r held w e = record {
         verdict-is = e ∙ rw (is, held .verdict-is ∙ opened-on p σ (length b) v judged ok asked h _) (sym (opened-on p σ (length b) v judged ok asked h _));
         judged = λ q. held .judged (not-refused 9 nine (r .verdict) (sym e ∙ q) .1);
@@ -73,7 +75,8 @@ module _ (p : MicroParams) (n crossed : ℕ) (b : List ℕ) (σ : ℕ) (v : Verd
       }
 
 -- THE CALL
-module _ (p : MicroParams) (n crossed : ℕ) (b : List ℕ) (ρ : Rounding) (r : Held) (held : CrossingHeld p n crossed b (ρ .state) r) (ok : Bool) (asked : ok ≡ isAccepted (r .verdict)) where
+module _ (p : MicroParams) (n crossed : ℕ) (b : List ℕ) (ρ : Rounding) (r : Held) (held : CrossingHeld p n crossed b (ρ .state) r)
+    (ok : Bool) (asked : ok ≡ isAccepted (r .verdict)) where
   pub cross-turned : not ok ≡ true → (a : CellAnswer) → a ≡ turnedBack (r .verdict) ρ → cellOutcome b a ≡ crossCall p n crossed b (ρ .state)
   unfolding crossCall
   cross-turned h a e = call-turned (r .verdict) _ (held .verdict-is) ok asked (crossOf (p .t) (p .c) n crossed b (ρ .state)) b ρ a h e
@@ -85,6 +88,7 @@ module _ (p : MicroParams) (n crossed : ℕ) (b : List ℕ) (ρ : Rounding) (r :
     pub cross-begins : crossed < pixelsOf (p .t) → crossed ≤ n
     cross-begins = held .begins (let-pass (r .verdict) ok asked h)
 
-    pub cross-accepted : (l : List ℕ) (d : Drawn) (a : CellAnswer) → stepOf l d ≡ crossOf (p .t) (p .c) n crossed b (ρ .state) → a ≡ doneWith d → cellOutcome l a ≡ crossCall p n crossed b (ρ .state)
+    pub cross-accepted : (l : List ℕ) (d : Drawn) (a : CellAnswer) → stepOf l d ≡ crossOf (p .t) (p .c) n crossed b (ρ .state) → a ≡ doneWith d
+        → cellOutcome l a ≡ crossCall p n crossed b (ρ .state)
     unfolding crossCall
     cross-accepted l d a e q = call-done (r .verdict) _ (held .verdict-is) ok asked (crossOf (p .t) (p .c) n crossed b (ρ .state)) b ρ a h l d e q

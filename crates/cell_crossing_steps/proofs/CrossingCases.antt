@@ -25,7 +25,8 @@ module _ (t p : ℕ) (b : List ℕ) (e : p ≡ pixelsOf t) where
   front-low m low = rw e low
 
   -- THE FAR JUMP
-  pub emptied-is : length b ≡ depthOf t → (l l' : List ℕ) (σ : ℕ) → l ≡ replicate (length (take p b)) 0 → l' ≡ withShutter t 0 (l ++ drop p b) → still l' σ ≡ still (emptied t b) σ
+  pub emptied-is : length b ≡ depthOf t → (l l' : List ℕ) (σ : ℕ) → l ≡ replicate (length (take p b)) 0 → l' ≡ withShutter t 0 (l ++ drop p b)
+      → still l' σ ≡ still (emptied t b) σ
   unfolding emptied
   emptied-is d l l' σ el el' =
       let q : length (take (pixelsOf t) b) ≡ pixelsOf t = length-take-le (pixelsOf t) b (omega arith) in
@@ -77,7 +78,8 @@ module _ (t c slot : ℕ) (b : List ℕ) (σ s u : ℕ) (es : s ≡ shutterOf t 
   pub close-empty : (b' : List ℕ) → b' ≡ withShutter t 0 b → s ≡ 0 → still b' σ ≡ closeOf t c slot b σ
   unfolding closeOf
   close-empty b' eb z =
-      let none : roundedDiv 0 (unitOf t c b) σ ≡ record { value = 0; state = σ; draws = 0 } = sym (whole-case 0 (unitOf t c b) σ (zero-mod (unitOf t c b))) ∙ rw (zero-div (unitOf t c b)) in
+      let unit = unitOf t c b in
+      let none : roundedDiv 0 unit σ ≡ record { value = 0; state = σ; draws = 0 } = sym (whole-case 0 unit σ (zero-mod unit)) ∙ rw (zero-div unit) in
       rw (eb, ← es, z, none) refl
 
   module _ (b' : List ℕ) (d : Divided) (eb : b' ≡ withShutter t 0 b) (ed : d ≡ roundedDiv s u σ) where
@@ -125,8 +127,8 @@ module _ (t c n crossed p : ℕ) (b : List ℕ) (σ : ℕ) (ep : p ≡ pixelsOf 
       let q : pixelsOf t ≤ crossed = omega arith in
       e ∙ sym (simp (le-leb _ _ q))
 
-  pub inside-near : crossed < p → (slot : ℕ) (l l' : List ℕ) (r : Drawn) → (crossed < pixelsOf t → slot ≡ slotOf t (n - crossed)) → stepOf l r ≡ closeOf t c slot b σ
-      → l' ≡ clearOf t crossed (n - crossed + 1) l → stepOf l' r ≡ insideOf t c n crossed b σ
+  pub inside-near : crossed < p → (slot : ℕ) (l l' : List ℕ) (r : Drawn) → (crossed < pixelsOf t → slot ≡ slotOf t (n - crossed))
+      → stepOf l r ≡ closeOf t c slot b σ → l' ≡ clearOf t crossed (n - crossed + 1) l → stepOf l' r ≡ insideOf t c n crossed b σ
   unfolding insideOf
   inside-near h slot l l' r known e el =
       let q : crossed < pixelsOf t = omega arith in
@@ -138,6 +140,7 @@ module _ (t c n crossed : ℕ) (b : List ℕ) (σ : ℕ) where
   unfolding crossOf
   cross-none h = simp (eq-eqb _ _ h)
 
-  pub cross-done : (crossed ≡ 0 → ⊥) → (l l' : List ℕ) (r : Drawn) → stepOf l r ≡ insideOf t c n crossed b σ → l' ≡ zoomInOf t c l → stepOf l' r ≡ crossOf t c n crossed b σ
+  pub cross-done : (crossed ≡ 0 → ⊥) → (l l' : List ℕ) (r : Drawn) → stepOf l r ≡ insideOf t c n crossed b σ → l' ≡ zoomInOf t c l
+      → stepOf l' r ≡ crossOf t c n crossed b σ
   unfolding crossOf
   cross-done h l l' r e el = simp (ne-eqb _ _ h) (rw el (ap (λ (s : Step). leaving s (zoomInOf t c (s .bytes))) e))

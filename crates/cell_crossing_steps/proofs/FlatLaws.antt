@@ -15,7 +15,8 @@ use Rattle.cell.proofs.CellLaws.{with-shutter-none}
 use Rattle.cell.proofs.CrossingLaws.{clear-zoom}
 use Rattle.cell_crossing_steps.proofs.CrossingCases.{close-empty}
 
-module _ (t c n crossed : ℕ) (b : List ℕ) (σ : ℕ) (fit : Fit t c (length b)) (sound : soundOf t c b ≡ true) (flat : zoomOf t b ≡ 0) (some : 0 < crossed) (near : crossed < pixelsOf t) where
+module _ (t c n crossed : ℕ) (b : List ℕ) (σ : ℕ) (fit : Fit t c (length b)) (sound : soundOf t c b ≡ true) (flat : zoomOf t b ≡ 0)
+    (some : 0 < crossed) (near : crossed < pixelsOf t) where
   none : shutterOf t b ≡ 0
   none = sound-flat t c b sound flat
 

@@ -65,7 +65,9 @@ module _ (c slot : ℕ) (px₀ : List ℕ) (σ : ℕ) where
         let inside : i < length (set px₀ slot 256) = rw (length-set px₀ slot 256, ← w .same) h in
         let next : i < i + 1 = omega arith in
         record {
-          done = w .done ∙ rw (divide-first c (set px₀ slot 256) s i inside, left h, ← e, add-one i, take-suc-set px i (d .value) h) (simp (append-assoc, add-assoc));
+          done =
+              w .done
+              ∙ rw (divide-first c (set px₀ slot 256) s i inside, left h, ← e, add-one i, take-suc-set px i (d .value) h) (simp (append-assoc, add-assoc));
           rest = drop-set-lt (i + 1) px i (d .value) next ∙ sym (drop-drop 1 i px) ∙ ap (λ (l : List ℕ). drop 1 l) (w .rest) ∙ drop-drop 1 i px₀;
           same = length-set px i (d .value) ∙ w .same;
           most = rw (length-set px i (d .value)) (omega arith);

@@ -15,7 +15,8 @@ use Rattle.cell.specs.Workers.{Judged, HeldOf, turnedBack, doneWith, stepOf}
 use Rattle.cell.proofs.JudgingLaws.{let-pass}
 use Rattle.cell.proofs.CallLaws.{call-turned, call-done}
 
-module _ (p : MicroParams) (n : ℕ) (b : List ℕ) (ρ : Rounding) (r : Held) (held : HeldOf p b (ρ .state) r) (ok : Bool) (asked : ok ≡ isAccepted (r .verdict)) where
+module _ (p : MicroParams) (n : ℕ) (b : List ℕ) (ρ : Rounding) (r : Held) (held : HeldOf p b (ρ .state) r)
+    (ok : Bool) (asked : ok ≡ isAccepted (r .verdict)) where
   pub insert-turned : not ok ≡ true → (a : CellAnswer) → a ≡ turnedBack (r .verdict) ρ → cellOutcome b a ≡ insertCall p n b (ρ .state)
   unfolding insertCall
   insert-turned h a e = call-turned (r .verdict) _ (held .verdict-is) ok asked (insertOf (p .t) (p .c) n b (ρ .state)) b ρ a h e
@@ -27,6 +28,7 @@ module _ (p : MicroParams) (n : ℕ) (b : List ℕ) (ρ : Rounding) (r : Held) (
     pub insert-few : p .t ≤ 4096
     insert-few = insert-judged .fit .t-high
 
-    pub insert-done : (l : List ℕ) (d : Drawn) (a : CellAnswer) → stepOf l d ≡ insertOf (p .t) (p .c) n b (ρ .state) → a ≡ doneWith d → cellOutcome l a ≡ insertCall p n b (ρ .state)
+    pub insert-done : (l : List ℕ) (d : Drawn) (a : CellAnswer) → stepOf l d ≡ insertOf (p .t) (p .c) n b (ρ .state) → a ≡ doneWith d
+        → cellOutcome l a ≡ insertCall p n b (ρ .state)
     unfolding insertCall
     insert-done l d a e q = call-done (r .verdict) _ (held .verdict-is) ok asked (insertOf (p .t) (p .c) n b (ρ .state)) b ρ a h l d e q

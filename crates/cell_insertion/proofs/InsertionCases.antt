@@ -23,7 +23,8 @@ module _ (t c slot : ℕ) (b : List ℕ) (σ z top : ℕ) (full : 255 ≤ pixelO
   credit-zoomed raised px r p h er ep e =
       let h' : zoomOf t b < maxZoom c = rw (← zoom, ← limit) h in
       let er' : raised ≡ withZoom t (zoomOf t b + 1) b = er ∙ rw zoom refl in
-      simp (le-ltb _ _ full, lt-ltb _ _ h') (rw (ep, er') (ap (pixelStep t (withZoom t (zoomOf t b + 1) b)) (rw (ep, er', with-zoom-pixels t (zoomOf t b + 1) b) at e)))
+      let divided = rw (ep, er', with-zoom-pixels t (zoomOf t b + 1) b) at e in
+      simp (le-ltb _ _ full, lt-ltb _ _ h') (rw (ep, er') (ap (pixelStep t (withZoom t (zoomOf t b + 1) b)) divided))
 
   pub credit-dropped : top ≤ z → still b σ ≡ creditOf t c slot b σ
   unfolding creditOf
@@ -38,27 +39,27 @@ module _ (t c n : ℕ) (b : List ℕ) (σ s unit : ℕ) (shutter : s ≡ shutter
       let h' : shutterOf t b + 1 < unitOf t c b = rw (← shutter, ← worth) h in
       rw (e, shutter) (simp (lt-ltb _ _ h'))
 
-  pub insert-credits : (l l' : List ℕ) (slot : ℕ) (r : Drawn) → unit ≤ s + 1 → l ≡ withShutter t 0 b → slot ≡ slotOf t n → stepOf l' r ≡ creditOf t c slot l σ → stepOf l' r ≡ insertOf t c n b σ
+  pub insert-credits : (l l' : List ℕ) (slot : ℕ) (r : Drawn) → unit ≤ s + 1 → l ≡ withShutter t 0 b → slot ≡ slotOf t n
+      → stepOf l' r ≡ creditOf t c slot l σ → stepOf l' r ≡ insertOf t c n b σ
   unfolding insertOf
   insert-credits l l' slot r h el es e =
       let h' : unitOf t c b ≤ shutterOf t b + 1 = rw (← shutter, ← worth) h in
       e ∙ rw (el, es) (simp (le-ltb _ _ h'))
 
 -- at zoom 0 every item is a unit for the pixel
-pub insert-flat : (t c n : ℕ) (b : List ℕ) (σ : ℕ) → Fit t c (length b) → soundOf t c b ≡ true → (z : ℕ) → z ≡ zoomOf t b → z ≡ 0
-    → (slot : ℕ) (l : List ℕ) (r : Drawn) → slot ≡ slotOf t n → stepOf l r ≡ creditOf t c slot b σ → stepOf l r ≡ insertOf t c n b σ
-insert-flat t c n b σ fit sound z zoom flat slot l r es e =
-    let none : shutterOf t b ≡ 0 = sound-flat t c b sound (sym zoom ∙ flat) in
-    let one : 1 ≡ unitOf t c b = rw (← zoom, flat) (sym (pow-zero c)) in
-    insert-credits t c n b σ 0 1 (sym none) one b l slot r (omega arith) (sym (with-shutter-none t b (fit .size-is) none)) es e
+module _ (t c n : ℕ) (b : List ℕ) (σ : ℕ) (fit : Fit t c (length b)) (sound : soundOf t c b ≡ true)
+    (z : ℕ) (zoom : z ≡ zoomOf t b) (flat : z ≡ 0) (slot : ℕ) (es : slot ≡ slotOf t n) where
+  pub insert-flat : (l : List ℕ) (r : Drawn) → stepOf l r ≡ creditOf t c slot b σ → stepOf l r ≡ insertOf t c n b σ
+  insert-flat l r e =
+      let none : shutterOf t b ≡ 0 = sound-flat t c b sound (sym zoom ∙ flat) in
+      let one : 1 ≡ unitOf t c b = rw (← zoom, flat) (sym (pow-zero c)) in
+      insert-credits t c n b σ 0 1 (sym none) one b l slot r (omega arith) (sym (with-shutter-none t b (fit .size-is) none)) es e
+
+  pub flat-gained : pixelOf b slot < 255 → still (withPixel slot (pixelOf b slot + 1) b) σ ≡ insertOf t c n b σ
+  flat-gained h = insert-flat (withPixel slot (pixelOf b slot + 1) b) (record { state = σ; draws = 0 }) (credit-gained t c slot b σ h)
 
 pub slot-in-cell : (t c n : ℕ) (b : List ℕ) → Fit t c (length b) → (slot : ℕ) → slot ≡ slotOf t n → slot < length b
 slot-in-cell t c n b fit slot es = omega (arith, slot-read t n slot es, fit .size-is)
-
-pub flat-gained : (t c n : ℕ) (b : List ℕ) (σ : ℕ) → Fit t c (length b) → soundOf t c b ≡ true → (z : ℕ) → z ≡ zoomOf t b → z ≡ 0 → (slot : ℕ) → slot ≡ slotOf t n → pixelOf b slot < 255
-    → still (withPixel slot (pixelOf b slot + 1) b) σ ≡ insertOf t c n b σ
-flat-gained t c n b σ fit sound z zoom flat slot es h =
-    insert-flat t c n b σ fit sound z zoom flat slot (withPixel slot (pixelOf b slot + 1) b) (record { state = σ; draws = 0 }) es (credit-gained t c slot b σ h)
 
 pub next-shutter-fits : (t c : ℕ) (b : List ℕ) (s unit : ℕ) → Judged t c b s unit → s + 1 < unit → s + 1 < 2 ^ 32
 next-shutter-fits t c b s unit j h = omega (arith, j .unit-is, sound-unit t c b (j .sound) (j .fit .c-low))

@@ -21,9 +21,13 @@ use Rattle.cell.proofs.JudgingLaws.{turned-back, let-pass, opened-out, opened-o
 use Rattle.cell.proofs.CallLaws.{refused-never, call-turned, call-done}
 
 -- JUDGED
-module _ (p : MicroParams) (b src : List ℕ) (σ : ℕ) (v : Verdict) (judged : v ≡ beforeCell p σ (length b) Accepted) (ok : Bool) (asked : ok ≡ isAccepted v) where
+module _ (p : MicroParams) (b src : List ℕ) (σ : ℕ) (v : Verdict) (judged : v ≡ beforeCell p σ (length b) Accepted)
+    (ok : Bool) (asked : ok ≡ isAccepted v) where
   pub pair-opened-out : not ok ≡ true → PairJudged p b src σ v
-  pair-opened-out h = record { verdict-is = opened-out p σ (length b) v judged ok asked h _; judged = λ e. absurd (refused-never v (turned-back v ok asked h) e) }
+  pair-opened-out h = record {
+    verdict-is = opened-out p σ (length b) v judged ok asked h _;
+    judged = λ e. absurd (refused-never v (turned-back v ok asked h) e);
+  }
 
   module _ (h : not ok ≡ false) where
     pub pair-fit : Fit (p .t) (p .c) (length b)
@@ -67,7 +71,8 @@ module _ (p : MicroParams) (b src : List ℕ) (σ : ℕ) (v : Verdict) (judged :
             }
 
 -- THE CALL
-module _ (p : MicroParams) (n : ℕ) (b src : List ℕ) (ρ : Rounding) (v : Verdict) (pair : PairJudged p b src (ρ .state) v) (ok : Bool) (asked : ok ≡ isAccepted v) where
+module _ (p : MicroParams) (n : ℕ) (b src : List ℕ) (ρ : Rounding) (v : Verdict) (pair : PairJudged p b src (ρ .state) v)
+    (ok : Bool) (asked : ok ≡ isAccepted v) where
   pub merge-turned : not ok ≡ true → (a : CellAnswer) → a ≡ turnedBack v ρ → cellOutcome b a ≡ mergeCall p n b src (ρ .state)
   unfolding mergeCall
   merge-turned h a e = call-turned v _ (pair .verdict-is) ok asked (mergeOf (p .t) (p .c) n b src (ρ .state)) b ρ a h e
@@ -76,6 +81,7 @@ module _ (p : MicroParams) (n : ℕ) (b src : List ℕ) (ρ : Rounding) (v : Ver
     pub merge-judged : Pair (p .t) (p .c) b src
     merge-judged = pair .judged (let-pass v ok asked h)
 
-    pub merge-accepted : (l : List ℕ) (d : Drawn) (a : CellAnswer) → stepOf l d ≡ mergeOf (p .t) (p .c) n b src (ρ .state) → a ≡ doneWith d → cellOutcome l a ≡ mergeCall p n b src (ρ .state)
+    pub merge-accepted : (l : List ℕ) (d : Drawn) (a : CellAnswer) → stepOf l d ≡ mergeOf (p .t) (p .c) n b src (ρ .state) → a ≡ doneWith d
+        → cellOutcome l a ≡ mergeCall p n b src (ρ .state)
     unfolding mergeCall
     merge-accepted l d a e q = call-done v _ (pair .verdict-is) ok asked (mergeOf (p .t) (p .c) n b src (ρ .state)) b ρ a h l d e q

@@ -54,8 +54,10 @@ module _ (t c : ℕ) (b src : List ℕ) (p : Pair t c b src) (target : ℕ) (et 
 -- THE MERGE
 module _ (t c : ℕ) (b src : List ℕ) (target : ℕ) (et : target ≡ max (zoomOf t b) (zoomOf t src))
     (carry : Carry) (ec : Carried (shutterOf t b + shutterOf t src) (c ^ target) carry) where
-  pub merged-is : (n slot : ℕ) → slot ≡ slotOf t n → (σ : ℕ) (sums l : List ℕ) (r : Summed) → settledOf sums r ≡ sumsOf t c target slot (carry .units) b src σ
-      → l ≡ withShutter t (carry .rest) (withZoom t (r .zoom) (withPixels t sums b)) → record { bytes = l; state = r .state; draws = r .draws } ≡ mergeOf t c n b src σ
+  pub merged-is : (n slot : ℕ) → slot ≡ slotOf t n → (σ : ℕ) (sums l : List ℕ) (r : Summed)
+      → settledOf sums r ≡ sumsOf t c target slot (carry .units) b src σ
+      → l ≡ withShutter t (carry .rest) (withZoom t (r .zoom) (withPixels t sums b))
+      → record { bytes = l; state = r .state; draws = r .draws } ≡ mergeOf t c n b src σ
   unfolding mergeOf sumsOf
   merged-is n slot en σ sums l r e el =
       rw (el, ec .rest-is, et)

@@ -10,12 +10,12 @@ use borrow.Author.Tests.{not-true, not-false}
 use Rattle.laws.specs.Steps.{Step}
 use Rattle.cell.specs.declared.Drawn.{Drawn}
 use Rattle.cell_merging_sums.specs.declared.worker.Summed.{Summed}
-use Rattle.cell.specs.Cell.{pixelsOf, pixelsIn, zoomOf, maxZoom}
+use Rattle.cell.specs.Cell.{pixelsOf, zoomOf, maxZoom}
 use Rattle.cell.specs.Insertion.{divideEach}
 use Rattle.cell.specs.Crossing.{allAtMost}
 use Rattle.cell.specs.Merge.{addEach, cutEach, Settled, settledLater, settleFrom, settleOf, withCarry, sumsOf}
 use Rattle.cell.specs.Workers.{stepOf}
-use Rattle.cell_merging_sums.specs.Workers.{flatSums, settledOf}
+use Rattle.cell_merging_sums.specs.Workers.{addedOf, flatSums, settledOf}
 use Rattle.cell.proofs.DivideLaws.{divide-draws}
 use Rattle.cell.proofs.PowerLaws.{max-zoom-limit}
 use Rattle.cell.proofs.SumsLaws.{most-at, cut-low, settle-fit, settle-raise, settle-few}
@@ -35,7 +35,8 @@ module _ (c z₀ : ℕ) (l₀ : List ℕ) (σ : ℕ) where
   settling-few l s n z w few =
       omega (arith, ap (λ (r : Settled). r .sums .draws) (w .done), settle-few c (maxZoom c - z₀) z₀ l₀ σ (omega (arith, max-zoom-limit c)) few)
 
-  pub settling-fits : (l : List ℕ) (s n z : ℕ) → Settling c z₀ l₀ σ l s n z → length l₀ ≤ 4098 → (τ : ℕ) (l' : List ℕ) (d : Drawn) → stepOf l' d ≡ divideEach c l τ → n + d .draws < 2 ^ 32
+  pub settling-fits : (l : List ℕ) (s n z : ℕ) → Settling c z₀ l₀ σ l s n z → length l₀ ≤ 4098
+      → (τ : ℕ) (l' : List ℕ) (d : Drawn) → stepOf l' d ≡ divideEach c l τ → n + d .draws < 2 ^ 32
   settling-fits l s n z w few τ l' d e =
       omega (arith, settling-few l s n z w few, ap (λ (r : Step). r .draws) e, divide-draws c l τ, w .same)
 
@@ -72,11 +73,11 @@ cut-known l l' e = rw e (cut-low l)
 -- ADD THE PIXELS
 module _ (t c target p z z' : ℕ) (b src : List ℕ) (σ : ℕ) (ez : z ≡ zoomOf t b) (ez' : z' ≡ zoomOf t src) (ep : p ≡ pixelsOf t) where
   pub added-is : (l : List ℕ) (r : Drawn) → stepOf l r ≡ addEach c (target - z) (target - z') (take p b) (take p src) σ
-      → stepOf l r ≡ addEach c (target - zoomOf t b) (target - zoomOf t src) (pixelsIn t b) (pixelsIn t src) σ
+      → stepOf l r ≡ addedOf t c target b src σ
   added-is l r e = rw (ez, ez', ep) at e
 
   pub added-flat : target - z ≡ 0 → target - z' ≡ 0 → (l : List ℕ) → l ≡ flatSums (take p b) (take p src)
-      → record { bytes = l; state = σ; draws = 0 } ≡ addEach c (target - zoomOf t b) (target - zoomOf t src) (pixelsIn t b) (pixelsIn t src) σ
+      → record { bytes = l; state = σ; draws = 0 } ≡ addedOf t c target b src σ
   added-flat d d' l e = rw (← ez, ← ez', ← ep, d, d', e) (sym (flat-is c (take p b) (take p src) σ))
 
 -- THE SUMS: what the pixels gave, the carry, and what settled
@@ -84,8 +85,9 @@ pub carry-fits : (l : List ℕ) (slot carry : ℕ) → allAtMost 510 l ≡ true 
 carry-fits l slot carry low h = omega (arith, most-at 510 l slot low)
 
 module _ (t c target slot carry : ℕ) (b src : List ℕ) (σ : ℕ) (l l' l'' : List ℕ) (r : Drawn) (r' : Summed)
-    (ea : stepOf l r ≡ addEach c (target - zoomOf t b) (target - zoomOf t src) (pixelsIn t b) (pixelsIn t src) σ)
+    (ea : stepOf l r ≡ addedOf t c target b src σ)
     (ec : l' ≡ withCarry slot carry l) (es : settledOf l'' r' ≡ settleOf c target l' (r .state)) where
-  pub sums-are : record { zoom = r' .zoom; sums = record { bytes = l''; state = r' .state; draws = r .draws + r' .draws } } ≡ sumsOf t c target slot carry b src σ
+  pub sums-are : record { zoom = r' .zoom; sums = record { bytes = l''; state = r' .state; draws = r .draws + r' .draws } }
+      ≡ sumsOf t c target slot carry b src σ
   unfolding sumsOf
   sums-are = rw (← ea, ← ec) (ap (settledLater (r .draws)) es)

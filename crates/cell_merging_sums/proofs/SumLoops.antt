@@ -150,7 +150,8 @@ module _ (xs ys : List ℕ) where
     pub flat-low : length xs ≤ i → allAtMost 510 zs ≡ true
     flat-low h = rw (take-all i zs (omega (arith, w .same))) at (w .low)
 
-    pub flat-on : (v v' : ℕ) → i < length xs → length ys ≡ length xs → v ≡ getD xs i 0 → v' ≡ getD ys i 0 → v < 256 → v' < 256 → Flat xs ys (set zs i (v + v')) (i + 1)
+    pub flat-on : (v v' : ℕ) → i < length xs → length ys ≡ length xs → v ≡ getD xs i 0 → v' ≡ getD ys i 0 → v < 256 → v' < 256
+        → Flat xs ys (set zs i (v + v')) (i + 1)
     flat-on v v' h paired e e' small small' =
         let hy : i < length ys = omega arith in
         let hz : i < length zs = omega (arith, w .same) in

@@ -9,12 +9,12 @@ ghost use mathlib.Core.Bool.{true};
 ghost use Prim.Native.Nat.{_-_, _*_, _^_, _≤_, _<_, min};
 ghost use lib.ListN.{length};
 ghost use Rattle.rounding.specs.Draws.{roundedDiv};
-ghost use Rattle.cell.specs.Cell.{pixelsOf, pixelsIn, zoomOf, maxZoom};
+ghost use Rattle.cell.specs.Cell.{pixelsOf, zoomOf, maxZoom};
 ghost use Rattle.cell.specs.Insertion.{divideEach};
 ghost use Rattle.cell.specs.Crossing.{allAtMost};
 ghost use Rattle.cell.specs.Merge.{scaleDown, addPair, addEach, cutEach, settleOf, withCarry, sumsOf};
 ghost use Rattle.cell.specs.Workers.{Fit, stepOf};
-ghost use Rattle.cell_merging_sums.specs.Workers.{flatSums, settledOf};
+ghost use Rattle.cell_merging_sums.specs.Workers.{addedOf, flatSums, settledOf};
 
 // Sums that fit a byte each: the zoom at which they do, and what drawing for them left.
 pub struct Summed {
@@ -69,7 +69,7 @@ fn add_pixels(
 ) -> Drawn
     requires { ⌜ Fit t c (length (now dst)) × Fit t c (length (now src)) × (length (now sums) ≡ pixelsOf t) ⌝ }
     requires { ⌜ (zoomOf t (now dst) ≤ target) × (zoomOf t (now src) ≤ target) ⌝ }
-    ensures { λ r. ⌜ stepOf (now (sums .exit)) r ≡ addEach c (target - zoomOf t (now (dst .entry))) (target - zoomOf t (now (src .entry))) (pixelsIn t (now (dst .entry))) (pixelsIn t (now (src .entry))) state ⌝ }
+    ensures { λ r. ⌜ stepOf (now (sums .exit)) r ≡ addedOf t c target (now (dst .entry)) (now (src .entry)) state ⌝ }
     ensures { λ r. ⌜ (allAtMost 510 (now (sums .exit)) ≡ true) × (r .draws ≤ 4098 * 510) ⌝ }
 {
     let down = target - fields::zoom(dst, t);

@@ -57,7 +57,9 @@ module _ (p : MicroParams) (b : List ℕ) (r : Held) (held : HeldOf p b 1 r) (ok
 
     pub pixel-turned : (n : ℕ) → record { verdict = r .verdict; items = ofBits binary64 0 } ≡ pixelCall p n b
     unfolding pixelCall
-    pixel-turned n = rw (← held .verdict-is, refused-leaves (r .verdict) (unitOf (p .t) (p .c) b * pixelOf b (slotOf (p .t) n)) 0 (turned-back (r .verdict) ok asked h), zero-is) refl
+    pixel-turned n =
+        let items = unitOf (p .t) (p .c) b * pixelOf b (slotOf (p .t) n) in
+        rw (← held .verdict-is, refused-leaves (r .verdict) items 0 (turned-back (r .verdict) ok asked h), zero-is) refl
 
   module _ (h : not ok ≡ false) where
     accepted : r .verdict ≡ Accepted

@@ -9,7 +9,7 @@ use native.Mathlib.Nat.{add-sub-cancel-left, mod-eq-of-lt}
 use lib.Pow.{pow-mono, pow-lt}
 use lib.Dec.{leb}
 use lib.Ieee.{Float}
-use lib.ListN.{length, getD, take, drop, set, length-append, length-set}
+use lib.ListN.{length, getD, drop, set, length-append, length-set}
 use lib.Seq.{drop-cons, set-at}
 use borrow.Author.Tests.{eq-eqb, ne-eqb, not-true, not-false}
 use Rattle.sketch.specs.declared.MicroCm.{MicroCm}

@@ -13,7 +13,10 @@ carry-of-requires : tie.Need-carry-of-requires
 carry-of-requires c κs = search needs
 
 sum-up-requires : tie.Need-sum-up-requires
-sum-up-requires c κs = ((search needs, search needs, search needs), (search (target-high, needs), search (target-high', needs), search (target-low, needs), search (slot-read, needs), search needs))
+sum-up-requires c κs = (
+  (search needs, search needs, search needs),
+  (search (target-high, needs), search (target-high', needs), search (target-low, needs), search (slot-read, needs), search needs),
+)
 
 store-requires : tie.Need-store-requires
 store-requires c κs = (search needs, search needs, search needs, search needs)
@@ -26,11 +29,17 @@ same-length-2 c = search needs
 
 returns : tie.Need-returns
 returns c =
-    let summed = c .before .before .before .before .before .before .before in
-    let carried = summed .before .before .before in
+    let stored = c .before .before in
+    let storing = stored .before .before in
+    let given-back = storing .before .before in
+    let summed = given-back .before in
+    let summing = summed .before .before in
+    let carried = summing .before in
     let target = carried .before .before in
-    let start = target .before .before .before .before .before in
-    merged-is _ _ _ _ _ (target .larger-zoom .ensures) _ (carried .carry-of .ensures) _ _ (start .pre .0 .1) _ _ _ _ (summed .sum-up .ensures .0) (c .before .before .store .ensures)
+    let entered = target .before .before in
+    let start = entered .before .before in
+    merged-is _ _ _ _ _ (target .larger-zoom .ensures) _ (carried .carry-of .ensures) _ _ (start .before .pre .0 .1) _ _ _ _
+    (summed .sum-up .ensures .0) (stored .store .ensures)
 
 pub merge-by-spec : {M : Type 1} → statement M
 merge-by-spec =

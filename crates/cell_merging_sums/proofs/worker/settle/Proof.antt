@@ -1,5 +1,6 @@
 -- `settle`: each turn is one raise of `settleFrom`; at max_zoom, and only there, the sums are cut. Assumes nothing.
-use Rattle.cell_merging_sums.proofs.SumCases.{Settling, settling-begin, settling-cut, cut-known, settling-raise, settling-less, settling-fits, settling-on, settling-fit, settling-few}
+use Rattle.cell_merging_sums.proofs.SumCases.{Settling, settling-begin, settling-cut, cut-known, settling-raise}
+use Rattle.cell_merging_sums.proofs.SumCases.{settling-less, settling-fits, settling-on, settling-fit, settling-few}
 use Rattle.cell.proofs.AtMostLaws.{room-known}
 use Prim.Native.Nat.{_-_}
 use Rattle.cell.specs.Cell.{maxZoom}
