@@ -1,4 +1,5 @@
--- What is accepted and which cells are looked at, read off the lists of causes: 14 applies where a judged cell is unsound, and no other cause asks for a byte. Assumes nothing.
+-- What is accepted and which cells are looked at, read off the lists of causes: 14 applies where a judged cell is unsound, and no other cause asks
+-- for a byte. Assumes nothing.
 use Prim.Native.Nat.{ℕ, zero, suc, _+_, _*_, _^_, _≤_, _<_}
 use mathlib.Core.Path.{_≡_, refl, sym, ap, _∙_}
 use mathlib.Core.Bool.{Bool, true, false, cond, _||_, true≢false}
@@ -17,7 +18,8 @@ use Rattle.clock.specs.Clock.{nOf, tickOf, advanceOf}
 use Rattle.sketch.specs.declared.MicroCm.{MicroCm}
 use Rattle.sketch.specs.Sketch.{cellsOf, cellIndex, keyCells, countFrom, allCells}
 use Rattle.sketch.specs.Audit.{firstUnsound}
-use Rattle.sketch.specs.Refusals.{bitsUpTo, gridFits, allBelow, keyFits, refuseSketch, judgedCells, updateVerdict, updateAtVerdict, advanceVerdict, highestVerdict, mergeVerdict}
+use Rattle.sketch.specs.Refusals.{bitsUpTo, gridFits, allBelow, keyFits, refuseSketch, judgedCells, updateVerdict, updateAtVerdict}
+use Rattle.sketch.specs.Refusals.{advanceVerdict, highestVerdict, mergeVerdict}
 use Rattle.sketch.specs.Workers.{Judged}
 use Rattle.sketch.specs.Causes.{updateCauses, updateAtCauses, advanceCauses, highestCauses, mergeCauses}
 use Rattle.sketch.specs.Acceptance.{Fitting, Limits, OneColumnARow, soundAt, SomeUnsound, Stays, Acceptance}
@@ -74,7 +76,8 @@ module _ (k : MicroCm) (key : List ℕ) where
   key-fits r = rw (eq-eqb _ _ (r .each-row)) (each-below (k .cols) key (r .each-low))
 
 -- THE CELLS of the key are sound, so none of those judged is unsound
-key-judged : (k : MicroCm) (g key : List ℕ) (first : ℕ) → ((row : ℕ) → row < length key → soundAt k g (cellIndex k (first + row) (getD key row 0)) ≡ true) → Judged k g (keyCells k first key)
+key-judged : (k : MicroCm) (g key : List ℕ) (first : ℕ)
+    → ((row : ℕ) → row < length key → soundAt k g (cellIndex k (first + row) (getD key row 0)) ≡ true) → Judged k g (keyCells k first key)
 unfolding keyCells firstUnsound
 key-judged k g [] first h = refl
 key-judged k g (x ∷ xs) first h =

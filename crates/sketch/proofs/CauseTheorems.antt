@@ -80,7 +80,8 @@ lower-none Accepted = refl
 lower-none (Refused k) = refl
 lower-none (Unsound j) = refl
 
-lower-paired : (xs ys : List Cause) (r : ℕ) → risesFrom r (numbersOf xs) ≡ true → numbersOf xs ≡ numbersOf ys → lowerOf (firstOf xs) (firstOf ys) ≡ firstOf (paired xs ys)
+lower-paired : (xs ys : List Cause) (r : ℕ) → risesFrom r (numbersOf xs) ≡ true → numbersOf xs ≡ numbersOf ys
+    → lowerOf (firstOf xs) (firstOf ys) ≡ firstOf (paired xs ys)
 unfolding firstOf numbersOf paired
 lower-paired [] ys r o e = refl
 lower-paired (x ∷ xs) [] r o e = lower-none (firstOf (x ∷ xs))

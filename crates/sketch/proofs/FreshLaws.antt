@@ -71,11 +71,13 @@ module _ (rows cols : ℕ) (p : MicroParams) (clock : SubWindowClock) where
             sym (size-left ∙ rw (ne-eqb _ _ other) refl)
 
   -- THE CALL
-  module _ (seed : ℕ) (g : List ℕ) (v : Verdict) (ev : v ≡ refuseSettings rows cols p clock (refuseSize (length g))) (ok : Bool) (asked : ok ≡ isAccepted v) where
+  module _ (seed : ℕ) (g : List ℕ) (v : Verdict) (ev : v ≡ refuseSettings rows cols p clock (refuseSize (length g))) (ok : Bool)
+      (asked : ok ≡ isAccepted v) where
     abbrev made : MicroCm
     made = freshSketch rows cols p clock seed
 
-    pub fresh-refused : (none : MicroCm) → none ≡ noSketch → (r : SketchAnswer) → r ≡ undrawn v none → not ok ≡ true → sketchOutcome r g ≡ freshCall rows cols p clock seed g
+    pub fresh-refused : (none : MicroCm) → none ≡ noSketch → (r : SketchAnswer) → r ≡ undrawn v none → not ok ≡ true
+        → sketchOutcome r g ≡ freshCall rows cols p clock seed g
     unfolding freshCall
     fresh-refused none en r er n = rw (er, en, ← ev, refused-leaves v (world made (freshGrid made)) (world noSketch g) (turned-back v ok asked n)) refl
 
@@ -83,7 +85,8 @@ module _ (rows cols : ℕ) (p : MicroParams) (clock : SubWindowClock) where
       room : length g ≡ gridBytes made
       room = eqb-true _ _ (not-false _ (not-refused 6 (not (eqb (length g) (gridBytes made))) Accepted (gate-passed (settingsOf given) (settings-gate given) (refuseSize (length g)) (sym ev ∙ let-pass v ok asked a) .1) .0))
 
-      pub fresh-made : (g' : List ℕ) (started : SubWindowClock) (rounding : Rounding) → g' ≡ replicate (length g) 0 → started ≡ startOf clock → rounding .state ≡ seeded seed
+      pub fresh-made : (g' : List ℕ) (started : SubWindowClock) (rounding : Rounding) → g' ≡ replicate (length g) 0 → started ≡ startOf clock
+          → rounding .state ≡ seeded seed
           → (r : SketchAnswer) → r ≡ undrawn v (record { rows = rows; cols = cols; params = p; clock = started; rounding = rounding })
           → sketchOutcome r g' ≡ freshCall rows cols p clock seed g
       unfolding freshCall

@@ -59,7 +59,8 @@ times-length c (x ∷ xs) = ap suc (times-length c xs)
 
 zoomed-length : (t c z : ℕ) (b : List ℕ) → length (zoomedIn t c z b) ≡ length b
 unfolding zoomedIn
-zoomed-length t c z b = length-set (withPixels t (timesEach c (pixelsIn t b)) b) (zoomAt t) z ∙ length-front b (timesEach c (pixelsIn t b)) (pixelsOf t) (times-length c (pixelsIn t b))
+zoomed-length t c z b = length-set (withPixels t (timesEach c (pixelsIn t b)) b) (zoomAt t) z
+    ∙ length-front b (timesEach c (pixelsIn t b)) (pixelsOf t) (times-length c (pixelsIn t b))
 
 zoom-in-length : (t c z : ℕ) (b : List ℕ) → length (zoomInFrom t c z b) ≡ length b
 unfolding zoomInFrom
@@ -126,7 +127,8 @@ module _ (k : MicroCm) (fit : Fits k) where
     insert-each-length [] g σ low room = refl
     insert-each-length (j ∷ js) g σ low room =
         let l = below-first (cellsOf k) j js low in
-        insert-each-length js (insertAt k n j g σ .bytes) (insertAt k n j g σ .state) (below-rest (cellsOf k) j js low) (still-room n j g σ room l) ∙ at-length n j g σ room l
+        insert-each-length js (insertAt k n j g σ .bytes) (insertAt k n j g σ .state) (below-rest (cellsOf k) j js low) (still-room n j g σ room l)
+        ∙ at-length n j g σ room l
 
     pub insert-each-drawn : (js g : List ℕ) (σ : ℕ) → allBelow (cellsOf k) js ≡ true → Holding k g → Drawn σ (insertEach k n js g σ)
     unfolding insertEach stateAfter
@@ -140,12 +142,14 @@ module _ (k : MicroCm) (fit : Fits k) where
 
     -- what an insertion keeps of a cell, and every cell has, every cell has afterwards
     module _ (P : List ℕ → Type 0) (keeps : (b : List ℕ) (σ : ℕ) → length b ≡ depth → P b → P (insertOf (k .params .t) (k .params .c) n b σ .bytes)) where
-      at-keeps : (j : ℕ) (g : List ℕ) (σ : ℕ) → Holding k g → j < cellsOf k → ((i : ℕ) → i < cellsOf k → P (cellOf k g i)) → (i : ℕ) → i < cellsOf k → P (cellOf k (insertAt k n j g σ .bytes) i)
+      at-keeps : (j : ℕ) (g : List ℕ) (σ : ℕ) → Holding k g → j < cellsOf k → ((i : ℕ) → i < cellsOf k → P (cellOf k g i)) → (i : ℕ) → i < cellsOf k
+          → P (cellOf k (insertAt k n j g σ .bytes) i)
       unfolding insertAt
       at-keeps j g σ room l all =
           pieces-splice depth (cellsOf k) j (after n j g σ room l) g l room (long n j g σ room l) (λ i. P) (keeps (cellOf k g j) σ (cell-length k g j room l) (all j l)) all
 
-      pub insert-each-keeps : (js g : List ℕ) (σ : ℕ) → allBelow (cellsOf k) js ≡ true → Holding k g → ((i : ℕ) → i < cellsOf k → P (cellOf k g i)) → (i : ℕ) → i < cellsOf k → P (cellOf k (insertEach k n js g σ .bytes) i)
+      pub insert-each-keeps : (js g : List ℕ) (σ : ℕ) → allBelow (cellsOf k) js ≡ true → Holding k g → ((i : ℕ) → i < cellsOf k → P (cellOf k g i))
+          → (i : ℕ) → i < cellsOf k → P (cellOf k (insertEach k n js g σ .bytes) i)
       unfolding insertEach
       insert-each-keeps [] g σ low room all = all
       insert-each-keeps (j ∷ js) g σ low room all =
@@ -161,7 +165,8 @@ module _ (k : MicroCm) (fit : Fits k) where
     unfolding crossEach
     cross-each-length = each-length (crossCell k n crossed) depth crossed-length (cellsOf k) 0 g σ room
 
-    pub cross-each-cell : (j : ℕ) → j < cellsOf k → cellOf k (crossEach k n crossed g σ .bytes) j ≡ crossOf (k .params .t) (k .params .c) n crossed (cellOf k g j) (eachOf (crossCell k n crossed) depth 0 j g σ .state) .bytes
+    pub cross-each-cell : (j : ℕ) → j < cellsOf k
+        → cellOf k (crossEach k n crossed g σ .bytes) j ≡ crossOf (k .params .t) (k .params .c) n crossed (cellOf k g j) (eachOf (crossCell k n crossed) depth 0 j g σ .state) .bytes
     unfolding crossEach
     cross-each-cell j l = each-piece (crossCell k n crossed) depth crossed-length (cellsOf k) 0 j g σ l room
 

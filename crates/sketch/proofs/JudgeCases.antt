@@ -42,7 +42,8 @@ length-then k rest = by (outside 1 (2 ^ 53) (lengthOf k))
     by false = refl
 
 -- THE SETTINGS
-module _ (rows cols : ℕ) (p : MicroParams) (clock : SubWindowClock) (cells : Verdict) (ep : cells ≡ paramsVerdict p) (ok : Bool) (asked : ok ≡ isAccepted cells) where
+module _ (rows cols : ℕ) (p : MicroParams) (clock : SubWindowClock) (cells : Verdict) (ep : cells ≡ paramsVerdict p) (ok : Bool)
+    (asked : ok ≡ isAccepted cells) where
   pub params-refused : not ok ≡ true → cells ≡ refuseSettings rows cols p clock Accepted
   params-refused n = sym (params-then p _ ∙ rw (← ep) (refused-leaves cells _ cells (turned-back cells ok asked n)))
 
@@ -79,7 +80,8 @@ module _ (k : MicroCm) (v : Verdict) (ok : Bool) (ev : v ≡ settingsOf k Accept
     numbers-pass n = sym (past ∙ rw (ne-eqb _ _ n))
 
 -- A SKETCH with its grid
-module _ (k : MicroCm) (g : List ℕ) (judged : Verdict) (ej : judged ≡ refuseSettings (k .rows) (k .cols) (k .params) (k .clock) Accepted) (ok : Bool) (asked : ok ≡ isAccepted judged) where
+module _ (k : MicroCm) (g : List ℕ) (judged : Verdict) (ej : judged ≡ refuseSettings (k .rows) (k .cols) (k .params) (k .clock) Accepted) (ok : Bool)
+    (asked : ok ≡ isAccepted judged) where
   pub settings-refused : not ok ≡ true → judged ≡ sketchVerdict k g
   settings-refused n = sym (gate-shut (settingsOf k) (settings-gate k) _ judged ej (turned-back judged ok asked n))
 

@@ -47,7 +47,8 @@ module _ (k : MicroCm) (g key : List ℕ) (w : Readable k key g) (row : ℕ) (h 
       pub lent-shutter : shutterOf (k .params .t) (take (start + d - start) (drop start g)) < unit
       lent-shutter = rw (lent-is, eu) row-shutter
 
-    pub items-are : (n j r : ℕ) → n ≡ nOf (k .clock) → r ≡ itemsIn (k .params .t) (k .params .c) n (take (start + d - start) (drop start g)) j → r ≡ rowItems k g key j row
+    pub items-are : (n j r : ℕ) → n ≡ nOf (k .clock) → r ≡ itemsIn (k .params .t) (k .params .c) n (take (start + d - start) (drop start g)) j
+        → r ≡ rowItems k g key j row
     items-are n j r en e = e ∙ rw (lent-is, en) refl
 
   pub unit-low : (unit : ℕ) → unit ≡ rowUnit k g key row → unit ≤ 2 ^ 32 - 1

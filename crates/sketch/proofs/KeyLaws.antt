@@ -73,7 +73,8 @@ module _ (k : MicroCm) (fit : Fits k) where
         (r .0, rw q (r .1 ∙ rw o refl))
 
     -- THE KEY HAS IT NOT
-    pub key-miss : (row : ℕ) (key g : List ℕ) (σ : ℕ) → KeyFrom k row key → Holding k g → (i col : ℕ) → i < length key → col < k .cols → (getD key i 0 ≡ col → ⊥)
+    pub key-miss : (row : ℕ) (key g : List ℕ) (σ : ℕ) → KeyFrom k row key → Holding k g → (i col : ℕ) → i < length key → col < k .cols
+        → (getD key i 0 ≡ col → ⊥)
         → cellOf k (insertEach k n (keyCells k row key) g σ .bytes) (cellIndex k (row + i) col) ≡ cellOf k g (cellIndex k (row + i) col)
     unfolding insertEach keyCells
     key-miss row [] g σ h room i col l q ne = absurd (omega arith)

@@ -16,7 +16,8 @@ use Rattle.clock.proofs.ClockLaws.{fraction-in-unit}
 use Rattle.sketch.specs.declared.MicroCm.{MicroCm}
 use Rattle.sketch.specs.Sketch.{keyCells}
 use Rattle.sketch.specs.Figures.{hasOldest}
-use Rattle.sketch.specs.Refusals.{keyFits, refuseSketch, refuseKey, refuseUnsound, sketchVerdict, readVerdict, readWithVerdict, readingAnswer, readCall, readWithCall}
+use Rattle.sketch.specs.Refusals.{keyFits, refuseSketch, refuseKey, refuseUnsound, sketchVerdict, readVerdict, readWithVerdict, readingAnswer}
+use Rattle.sketch.specs.Refusals.{readCall, readWithCall}
 use Rattle.sketch.specs.Workers.{Judged}
 use Rattle.sketch.proofs.SketchGates.{sketch-gate}
 use Rattle.sketch.proofs.ReadyLaws.{keyed-ready}
@@ -70,7 +71,8 @@ module _ (k : MicroCm) (key g : List ℕ) where
           let good : GoodLength (k .clock) = ready .timed in
           ap keyed (sym (unit-passes (fractionOf (k .clock)) (fraction-in-unit (k .clock) good)))
       by false e =
-          gate-shut keyed keyed-gate cells (keyed Accepted) refl e ∙ sym (gate-shut keyed keyed-gate (fractionThen (fractionOf (k .clock))) (keyed Accepted) refl e)
+          gate-shut keyed keyed-gate cells (keyed Accepted) refl e
+          ∙ sym (gate-shut keyed keyed-gate (fractionThen (fractionOf (k .clock))) (keyed Accepted) refl e)
 
   pub clock-read : readCall k key g ≡ readWithCall k key (fractionOf (k .clock)) g
   unfolding readCall readWithCall

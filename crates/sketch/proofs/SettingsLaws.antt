@@ -69,7 +69,8 @@ pub record GoodSettings (rows cols : ℕ) (p : MicroParams) (clock : SubWindowCl
   pub timed : GoodLength clock
   pub grid : GoodGrid rows cols
 
-pub good-settings : (rows cols : ℕ) (p : MicroParams) (clock : SubWindowClock) → refuseSettings rows cols p clock Accepted ≡ Accepted → GoodSettings rows cols p clock
+pub good-settings : (rows cols : ℕ) (p : MicroParams) (clock : SubWindowClock) → refuseSettings rows cols p clock Accepted ≡ Accepted
+    → GoodSettings rows cols p clock
 good-settings rows cols p clock e =
     let no1 = not-refused 1 _ _ e in
     let no2 = not-refused 2 _ _ (no1 .1) in

@@ -28,7 +28,8 @@ use Rattle.sketch.proofs.SettingsLaws.{GoodSettings}
 use Rattle.laws.proofs.ChoiceLaws.{both-hold}
 use Rattle.sketch.proofs.AddressLaws.{key-rows}
 use Rattle.sketch.proofs.KeyLaws.{KeyFrom, key-cells-below}
-use Rattle.sketch.proofs.GridLaws.{below-first, below-rest, Holding, Fits, fits-cell, insert-each-length, insert-each-drawn, insert-each-keeps, cross-each-length, cross-each-sound, cross-each-drawn}
+use Rattle.sketch.proofs.GridLaws.{below-first, below-rest, Holding, Fits, fits-cell, insert-each-length, insert-each-drawn, insert-each-keeps}
+use Rattle.sketch.proofs.GridLaws.{cross-each-length, cross-each-sound, cross-each-drawn}
 
 -- a grid of the right length, a state that is not 0, and every cell sound
 pub record Good (k : MicroCm) (g : List ℕ) (σ : ℕ) : Type 0 where

@@ -13,7 +13,8 @@ use Rattle.clock.specs.declared.SubWindowClock.{SubWindowClock}
 use Rattle.clock.specs.Clock.{nOf, isCount, tickOf, advanceOf}
 use Rattle.sketch.specs.declared.MicroCm.{MicroCm}
 use Rattle.sketch.specs.Sketch.{cellsOf, cellIndex, cellOf}
-use Rattle.sketch.specs.Refusals.{gridFits, keyFits, sketchVerdict, freshVerdict, updateVerdict, updateAtVerdict, advanceVerdict, bucketVerdict, highestVerdict, mergeVerdict}
+use Rattle.sketch.specs.Refusals.{gridFits, keyFits, sketchVerdict, freshVerdict, updateVerdict, updateAtVerdict, advanceVerdict, bucketVerdict}
+use Rattle.sketch.specs.Refusals.{highestVerdict, mergeVerdict}
 
 -- ROWS AND COLS: cols is 2 ^ bits with bits from 1 to 16, rows at least 1, and rows × bits at most 128
 pub record Fitting (rows cols : ℕ) : Type 0 where
@@ -74,7 +75,8 @@ pub record Acceptance : Type 0 where
   -- an item within its sub-window looks at the key's cells and no others
   pub update-looks-at-key : (k : MicroCm) (key g : List ℕ) → sketchVerdict k g ≡ Accepted → keyFits k key ≡ true → isCount (k .clock) ≡ true
       → Stays k (tickOf (k .clock)) → KeySound k key g → updateVerdict k key g ≡ Accepted
-  pub update-at-looks-at-key : (k : MicroCm) (key : List ℕ) (reading : ℕ) (g : List ℕ) → sketchVerdict k g ≡ Accepted → keyFits k key ≡ true → isCount (k .clock) ≡ false
+  pub update-at-looks-at-key : (k : MicroCm) (key : List ℕ) (reading : ℕ) (g : List ℕ) → sketchVerdict k g ≡ Accepted → keyFits k key ≡ true
+      → isCount (k .clock) ≡ false
       → Stays k (advanceOf (k .clock) reading) → KeySound k key g → updateAtVerdict k key reading g ≡ Accepted
   -- a call that crosses looks at every cell; so do the highest zoom and, in both grids, a merge
   pub update-looks-at-all : (k : MicroCm) (key g : List ℕ) → (Stays k (tickOf (k .clock)) → ⊥) → SomeUnsound k g → isAccepted (updateVerdict k key g) ≡ false

@@ -12,7 +12,9 @@ use Rattle.clock.specs.Clock.{tickOf, advanceOf}
 use Rattle.clock.specs.Refusals.{badLength, isTimed, isCounted}
 use Rattle.sketch.specs.declared.MicroCm.{MicroCm}
 use Rattle.sketch.specs.Sketch.{keyCells, allCells, freshSketch}
-use Rattle.sketch.specs.Refusals.{badDimensions, badGrid, badKey, noCell, otherShape, otherFrame, otherSubWindow, badFraction, badCells, judgedCells, freshVerdict, updateVerdict, updateAtVerdict, advanceVerdict, readVerdict, readWithVerdict, bucketVerdict, highestVerdict, sketchVerdict, mergeVerdict}
+use Rattle.sketch.specs.Refusals.{badDimensions, badGrid, badKey, noCell, otherShape, otherFrame, otherSubWindow, badFraction, badCells}
+use Rattle.sketch.specs.Refusals.{judgedCells, freshVerdict, updateVerdict, updateAtVerdict, advanceVerdict, readVerdict, readWithVerdict}
+use Rattle.sketch.specs.Refusals.{bucketVerdict, highestVerdict, sketchVerdict, mergeVerdict}
 
 -- 1 to 4: settings
 abbrev pub settingsCauses : ℕ → ℕ → MicroParams → SubWindowClock → List Cause
@@ -35,7 +37,8 @@ abbrev pub updateCauses : MicroCm → List ℕ → List ℕ → List Cause
 updateCauses k key g = sketchCauses k g ++ badKey k key ∷ isTimed (k .clock) ∷ badCells k g (judgedCells k (tickOf (k .clock)) (keyCells k 0 key)) ∷ []
 
 abbrev pub updateAtCauses : MicroCm → List ℕ → ℕ → List ℕ → List Cause
-updateAtCauses k key reading g = sketchCauses k g ++ badKey k key ∷ isCounted (k .clock) ∷ badCells k g (judgedCells k (advanceOf (k .clock) reading) (keyCells k 0 key)) ∷ []
+updateAtCauses k key reading g =
+    sketchCauses k g ++ badKey k key ∷ isCounted (k .clock) ∷ badCells k g (judgedCells k (advanceOf (k .clock) reading) (keyCells k 0 key)) ∷ []
 
 abbrev pub advanceCauses : MicroCm → ℕ → List ℕ → List Cause
 advanceCauses k reading g = sketchCauses k g ++ isCounted (k .clock) ∷ badCells k g (judgedCells k (advanceOf (k .clock) reading) []) ∷ []
@@ -63,13 +66,17 @@ mergeCauses k g k' g' =
 
 -- EVERY CALL on a sketch is refused by the first of its causes that holds, and they stand in the table's order
 pub record SketchCalls : Type 0 where
-  pub fresh : (rows cols : ℕ) (p : MicroParams) (clock : SubWindowClock) (seed : ℕ) (g : List ℕ) → Told (freshVerdict rows cols p clock seed g) (1 ∷ 2 ∷ 3 ∷ 4 ∷ 6 ∷ []) (freshCauses rows cols p clock seed g)
+  pub fresh : (rows cols : ℕ) (p : MicroParams) (clock : SubWindowClock) (seed : ℕ) (g : List ℕ)
+      → Told (freshVerdict rows cols p clock seed g) (1 ∷ 2 ∷ 3 ∷ 4 ∷ 6 ∷ []) (freshCauses rows cols p clock seed g)
   pub update : (k : MicroCm) (key g : List ℕ) → Told (updateVerdict k key g) (1 ∷ 2 ∷ 3 ∷ 4 ∷ 5 ∷ 6 ∷ 7 ∷ 8 ∷ 14 ∷ []) (updateCauses k key g)
-  pub update-at : (k : MicroCm) (key : List ℕ) (reading : ℕ) (g : List ℕ) → Told (updateAtVerdict k key reading g) (1 ∷ 2 ∷ 3 ∷ 4 ∷ 5 ∷ 6 ∷ 7 ∷ 8 ∷ 14 ∷ []) (updateAtCauses k key reading g)
+  pub update-at : (k : MicroCm) (key : List ℕ) (reading : ℕ) (g : List ℕ)
+      → Told (updateAtVerdict k key reading g) (1 ∷ 2 ∷ 3 ∷ 4 ∷ 5 ∷ 6 ∷ 7 ∷ 8 ∷ 14 ∷ []) (updateAtCauses k key reading g)
   pub advance : (k : MicroCm) (reading : ℕ) (g : List ℕ) → Told (advanceVerdict k reading g) (1 ∷ 2 ∷ 3 ∷ 4 ∷ 5 ∷ 6 ∷ 8 ∷ 14 ∷ []) (advanceCauses k reading g)
   pub read : (k : MicroCm) (key g : List ℕ) → Told (readVerdict k key g) (1 ∷ 2 ∷ 3 ∷ 4 ∷ 5 ∷ 6 ∷ 7 ∷ 14 ∷ []) (readCauses k key g)
-  pub read-with : (k : MicroCm) (key : List ℕ) (fraction : Float) (g : List ℕ) → Told (readWithVerdict k key fraction g) (1 ∷ 2 ∷ 3 ∷ 4 ∷ 5 ∷ 6 ∷ 7 ∷ 13 ∷ 14 ∷ []) (readWithCauses k key fraction g)
+  pub read-with : (k : MicroCm) (key : List ℕ) (fraction : Float) (g : List ℕ)
+      → Told (readWithVerdict k key fraction g) (1 ∷ 2 ∷ 3 ∷ 4 ∷ 5 ∷ 6 ∷ 7 ∷ 13 ∷ 14 ∷ []) (readWithCauses k key fraction g)
   pub bucket : (k : MicroCm) (row col : ℕ) (g : List ℕ) → Told (bucketVerdict k row col g) (1 ∷ 2 ∷ 3 ∷ 4 ∷ 5 ∷ 6 ∷ 7 ∷ []) (bucketCauses k row col g)
   pub highest : (k : MicroCm) (g : List ℕ) → Told (highestVerdict k g) (1 ∷ 2 ∷ 3 ∷ 4 ∷ 5 ∷ 6 ∷ 14 ∷ []) (highestCauses k g)
   pub audit : (k : MicroCm) (g : List ℕ) → Told (sketchVerdict k g) (1 ∷ 2 ∷ 3 ∷ 4 ∷ 5 ∷ 6 ∷ []) (sketchCauses k g)
-  pub merge : (k : MicroCm) (g : List ℕ) (k' : MicroCm) (g' : List ℕ) → Told (mergeVerdict k g k' g') (1 ∷ 1 ∷ 2 ∷ 2 ∷ 3 ∷ 3 ∷ 4 ∷ 4 ∷ 5 ∷ 5 ∷ 6 ∷ 6 ∷ 10 ∷ 11 ∷ 12 ∷ 14 ∷ 14 ∷ []) (mergeCauses k g k' g')
+  pub merge : (k : MicroCm) (g : List ℕ) (k' : MicroCm) (g' : List ℕ)
+      → Told (mergeVerdict k g k' g') (1 ∷ 1 ∷ 2 ∷ 2 ∷ 3 ∷ 3 ∷ 4 ∷ 4 ∷ 5 ∷ 5 ∷ 6 ∷ 6 ∷ 10 ∷ 11 ∷ 12 ∷ 14 ∷ 14 ∷ []) (mergeCauses k g k' g')

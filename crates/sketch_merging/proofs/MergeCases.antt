@@ -33,7 +33,8 @@ all-four true false c d e = absurd (true≢false (sym e))
 all-four false b c d e = absurd (true≢false (sym e))
 
 -- the same shape is the same rows, cols, t and c
-shape-parts : (k k' : MicroCm) → sameShape k k' ≡ true → (k .rows ≡ k' .rows) × (k .cols ≡ k' .cols) × (k .params .t ≡ k' .params .t) × (k .params .c ≡ k' .params .c)
+shape-parts : (k k' : MicroCm) → sameShape k k' ≡ true
+    → (k .rows ≡ k' .rows) × (k .cols ≡ k' .cols) × (k .params .t ≡ k' .params .t) × (k .params .c ≡ k' .params .c)
 shape-parts k k' e =
     let p = all-four (eqb (k .rows) (k' .rows)) (eqb (k .cols) (k' .cols)) (eqb (k .params .t) (k' .params .t)) (eqb (k .params .c) (k' .params .c)) e in
     (eqb-true _ _ (p .0), eqb-true _ _ (p .1), eqb-true _ _ (p .2), eqb-true _ _ (p .3))
@@ -50,7 +51,8 @@ module _ (k : MicroCm) (g : List ℕ) (k' : MicroCm) (g' : List ℕ) (v : Verdic
     accepted : v ≡ Accepted
     accepted = let-pass v ok asked yes
 
-    settled : (lowerOf (sketchVerdict k g) (sketchVerdict k' g') ≡ Accepted) × (refusePair k k' (refuseUnsound k g (allCells k) (refuseUnsound k' g' (allCells k') Accepted)) ≡ Accepted)
+    settled : (lowerOf (sketchVerdict k g) (sketchVerdict k' g') ≡ Accepted)
+        × (refusePair k k' (refuseUnsound k g (allCells k) (refuseUnsound k' g' (allCells k') Accepted)) ≡ Accepted)
     settled = both-accepted (lowerOf (sketchVerdict k g) (sketchVerdict k' g')) _ (sym ev ∙ accepted)
 
     either : (sketchVerdict k g ≡ Accepted) × (sketchVerdict k' g' ≡ Accepted)

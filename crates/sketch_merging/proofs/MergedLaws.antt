@@ -23,7 +23,8 @@ use Rattle.sketch.specs.Sketch.{cellsOf, cellOf}
 use Rattle.sketch.specs.Merge.{mergeCell, mergeEach}
 use Rattle.sketch.specs.Workers.{SoundCells}
 
-module _ (k : MicroCm) (n : ℕ) (other g : List ℕ) (σ : ℕ) (ok : SoundCells (k .params .t) (k .params .c) (cellsOf k) g) (ok' : SoundCells (k .params .t) (k .params .c) (cellsOf k) other) where
+module _ (k : MicroCm) (n : ℕ) (other g : List ℕ) (σ : ℕ) (ok : SoundCells (k .params .t) (k .params .c) (cellsOf k) g)
+    (ok' : SoundCells (k .params .t) (k .params .c) (cellsOf k) other) where
   abbrev depth : ℕ
   depth = depthOf (k .params .t)
 
@@ -63,7 +64,8 @@ module _ (c : ℕ) where
       next : Settled
       next = settleFrom c left (z + 1) (s .bytes) (s .state)
 
-      by : (next .zoom < z + 1 + left → Uncut (z + 1) (s .bytes) (s .state) next) → (fit : Bool) → cond fit (record { zoom = z; sums = still sums σ }) (settledLater (s .draws) next) .zoom < z + suc left
+      by : (next .zoom < z + 1 + left → Uncut (z + 1) (s .bytes) (s .state) next) → (fit : Bool)
+          → cond fit (record { zoom = z; sums = still sums σ }) (settledLater (s .draws) next) .zoom < z + suc left
           → Uncut z sums σ (cond fit (record { zoom = z; sums = still sums σ }) (settledLater (s .draws) next))
       by less true h = let e : z - z ≡ 0 = omega arith in rw e refl
       by less false h =

@@ -119,7 +119,8 @@ module _ (v v' settings : Verdict) (es : settings ≡ lowerOf v v') (ok : Bool) 
     length-second ev = ready-second ev .timed
 
 -- ALL CAUSES
-module _ (k : MicroCm) (g : List ℕ) (k' : MicroCm) (g' : List ℕ) (v v' settings : Verdict) (ev : v ≡ sketchVerdict k g) (ev' : v' ≡ sketchVerdict k' g') (es : settings ≡ lowerOf v v') (ok : Bool)
+module _ (k : MicroCm) (g : List ℕ) (k' : MicroCm) (g' : List ℕ) (v v' settings : Verdict) (ev : v ≡ sketchVerdict k g)
+    (ev' : v' ≡ sketchVerdict k' g') (es : settings ≡ lowerOf v v') (ok : Bool)
     (asked : ok ≡ isAccepted settings) where
   abbrev told : Verdict → Verdict
   told rest = whenAccepted settings rest settings
@@ -146,4 +147,5 @@ module _ (k : MicroCm) (g : List ℕ) (k' : MicroCm) (g' : List ℕ) (v v' setti
         received-refused h = sym (past-pair ∙ gate-shut (refuseUnsound k g (allCells k)) (unsound-gate k g (allCells k)) _ u eu (turned-back u ok'' asked'' h))
 
         pub other-told : not ok'' ≡ false → (w : Verdict) → w ≡ refuseUnsound k' g' (allCells k') Accepted → w ≡ mergeVerdict k g k' g'
-        other-told h w ew = ew ∙ sym (past-pair ∙ gate-open (refuseUnsound k g (allCells k)) (unsound-gate k g (allCells k)) _ (sym eu ∙ let-pass u ok'' asked'' h))
+        other-told h w ew =
+            ew ∙ sym (past-pair ∙ gate-open (refuseUnsound k g (allCells k)) (unsound-gate k g (allCells k)) _ (sym eu ∙ let-pass u ok'' asked'' h))

@@ -90,12 +90,14 @@ module _ (k : MicroCm) (key g : List ℕ) where
 -- THE ANSWERS
 module _ (k : MicroCm) (key g : List ℕ) (v : Verdict) (ok : Bool) (asked : ok ≡ isAccepted v) where
   module _ (fraction : Float) where
-    nothing-told : (r : ReadingAnswer) → r ≡ record { verdict = v; reading = noReading; over = 0; under = 0 } → not ok ≡ true → r ≡ readingAnswer v k g key fraction
+    nothing-told : (r : ReadingAnswer) → r ≡ record { verdict = v; reading = noReading; over = 0; under = 0 } → not ok ≡ true
+        → r ≡ readingAnswer v k g key fraction
     nothing-told r er h =
         let n = turned-back v ok asked h in
         er ∙ rw (refused-leaves v (oneReading k g key fraction) noReading n, refused-leaves v (overOf k g key) 0 n, refused-leaves v (underOf k g key) 0 n) refl
 
-    all-told : (r : ReadingAnswer) (e : Estimated) → e ≡ estimateOf k g key fraction → r ≡ record { verdict = v; reading = e .reading; over = e .over; under = e .under } → not ok ≡ false
+    all-told : (r : ReadingAnswer) (e : Estimated) → e ≡ estimateOf k g key fraction
+        → r ≡ record { verdict = v; reading = e .reading; over = e .over; under = e .under } → not ok ≡ false
         → r ≡ readingAnswer v k g key fraction
     all-told r e ee er h = er ∙ rw (ee, let-pass v ok asked h) refl
 
@@ -110,7 +112,8 @@ module _ (k : MicroCm) (key g : List ℕ) (v : Verdict) (ok : Bool) (asked : ok 
 
     pub mean-refused : not ok ≡ true → record { verdict = v; mean = 0 } ≡ meanCall k key g
     unfolding meanCall
-    mean-refused h = rw (← ev) (ap (λ (m : ℕ). record { verdict = v; mean = m }) (sym (refused-leaves v (underOf k g key / k .params .t) 0 (turned-back v ok asked h))))
+    mean-refused h =
+        rw (← ev) (ap (λ (m : ℕ). record { verdict = v; mean = m }) (sym (refused-leaves v (underOf k g key / k .params .t) 0 (turned-back v ok asked h))))
 
     module _ (h : not ok ≡ false) where
       pub read-readable : Readable k key g
@@ -136,12 +139,14 @@ module _ (k : MicroCm) (key g : List ℕ) (v : Verdict) (ok : Bool) (asked : ok 
     unfolding readWithCall
     same-with = ap (λ (w : Verdict). readingAnswer w k g key fraction) ev
 
-    pub read-with-refused : (r : ReadingAnswer) → r ≡ record { verdict = v; reading = noReading; over = 0; under = 0 } → not ok ≡ true → r ≡ readWithCall k key fraction g
+    pub read-with-refused : (r : ReadingAnswer) → r ≡ record { verdict = v; reading = noReading; over = 0; under = 0 } → not ok ≡ true
+        → r ≡ readWithCall k key fraction g
     read-with-refused r er h = nothing-told fraction r er h ∙ same-with
 
     pub read-with-readable : not ok ≡ false → Readable k key g
     read-with-readable h = readable-with k key g fraction (sym ev ∙ let-pass v ok asked h)
 
-    pub read-with-told : (e : Estimated) (r : ReadingAnswer) → e ≡ estimateOf k g key fraction → r ≡ record { verdict = v; reading = e .reading; over = e .over; under = e .under }
+    pub read-with-told : (e : Estimated) (r : ReadingAnswer) → e ≡ estimateOf k g key fraction
+        → r ≡ record { verdict = v; reading = e .reading; over = e .over; under = e .under }
         → not ok ≡ false → r ≡ readWithCall k key fraction g
     read-with-told e r ee er h = all-told fraction r e ee er h ∙ same-with

@@ -61,7 +61,8 @@ module _ (g store : List ℕ) where
       answered : headerIn (headerPayload store) ≡ h
       answered = ap headerIn (part-take 4 504 512 store (omega arith)) ∙ sym eh
 
-      pub load-header : (a : SketchAnswer) (n i : ℕ) → h ≡ Refused n → i ≡ headerNumber h → a ≡ undrawn (verdict.Refused i) noSketch → sketchOutcome a g ≡ loadCall g store
+      pub load-header : (a : SketchAnswer) (n i : ℕ) → h ≡ Refused n → i ≡ headerNumber h → a ≡ undrawn (verdict.Refused i) noSketch
+          → sketchOutcome a g ≡ loadCall g store
       load-header a n i en ei =
           let e : i ≡ n = ei ∙ ap headerNumber en in
           unloaded a (verdict.Refused i) refl (past-blocks ∙ rw (header-refused (headerPayload store) n (answered ∙ en)) (ap verdict.Refused (sym e)))

@@ -103,7 +103,8 @@ module _ (g store : List ℕ) (loaded : loadVerdict g store ≡ Accepted) where
   load-call = rw loaded
 
   -- no call refuses what was loaded, by 1 to 6 or 14
-  pub load-usable : (rest : Verdict) → refuseSketch (sketchOf store) (gridOf store) (refuseUnsound (sketchOf store) (gridOf store) (allCells (sketchOf store)) rest) ≡ rest
+  pub load-usable : (rest : Verdict)
+      → refuseSketch (sketchOf store) (gridOf store) (refuseUnsound (sketchOf store) (gridOf store) (allCells (sketchOf store)) rest) ≡ rest
   load-usable rest =
       gate-open (judged (sketchOf store)) (judged-gate (sketchOf store)) _ (able-to .good)
       ∙ rw (eq-eqb _ _ grid-long)
@@ -148,7 +149,8 @@ module _ (g store : List ℕ) (loaded : loadVerdict g store ≡ Accepted) where
         rw (v, store-same)
 
   -- ANY ONE CHANGED BYTE is refused by 17
-  pub load-changed : (g' : List ℕ) (k v : ℕ) → k < length store → (v ≡ getD store k 0 → ⊥) → loadCall g' (set store k v) ≡ sketchOutcome (undrawn (Refused 17) noSketch) g'
+  pub load-changed : (g' : List ℕ) (k v : ℕ) → k < length store → (v ≡ getD store k 0 → ⊥)
+      → loadCall g' (set store k v) ≡ sketchOutcome (undrawn (Refused 17) noSketch) g'
   unfolding loadCall
   load-changed g' k v h ne =
       let whole : length store ≡ 512 * (length store / 512) = omega (arith, able-to .kept .exact) in

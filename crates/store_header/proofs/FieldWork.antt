@@ -104,7 +104,8 @@ module _ (p : List ℕ) (len reading kind : ℕ) (el : len ≡ fieldOf 8 24 p) (
   pub clock-tells : (kind ≡ 0 → ⊥) → (epoch : ℕ) → epoch ≡ fieldOf 8 32 p → TimeBased len epoch reading ≡ clockIn p
   clock-tells h epoch ee = rw (← ek, ne-eqb _ _ h, el, er, ee)
 
-pub sketch-is : (p : List ℕ) (rows cols t c state : ℕ) (clock : SubWindowClock) → rows ≡ fieldOf 4 4 p → cols ≡ fieldOf 4 8 p → t ≡ fieldOf 4 12 p → c ≡ fieldOf 4 16 p
+pub sketch-is : (p : List ℕ) (rows cols t c state : ℕ) (clock : SubWindowClock) → rows ≡ fieldOf 4 4 p → cols ≡ fieldOf 4 8 p → t ≡ fieldOf 4 12 p
+    → c ≡ fieldOf 4 16 p
     → clock ≡ clockIn p → state ≡ fieldOf 8 48 p
     → record { rows = rows; cols = cols; params = record { t = t; c = c }; clock = clock; rounding = record { state = state } } ≡ sketchIn p
 unfolding sketchIn

@@ -150,7 +150,8 @@ module _ (p : List ℕ) where
 
   module _ (long : length p ≡ 504) (small : Small p) (right : wrongForm p ≡ false) where
     field-back : (width at : ℕ) → at + width ≤ 504 → bytesOf width (fieldOf width at p) ≡ part at width p
-    field-back width at room = bytes-number width (part at width p) (part-length at width p (rw long room)) (small-take width (drop at p) (small-drop at p small))
+    field-back width at room =
+        bytes-number width (part at width p) (part-length at width p (rw long room)) (small-take width (drop at p) (small-drop at p small))
 
     header-first : headerOf (sketchIn p) ≡ take 56 p
     unfolding headerWith sketchIn

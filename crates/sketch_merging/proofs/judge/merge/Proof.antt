@@ -1,5 +1,6 @@
 -- `merge`: what each sketch is refused by, then what the pair is, then each grid. Assumes nothing.
-use Rattle.sketch_merging.proofs.VerdictCases.{length-first, length-second, ready-first, ready-second, either-refused, pair-refused, received-refused, other-told}
+use Rattle.sketch_merging.proofs.VerdictCases.{length-first, length-second, ready-first, ready-second, either-refused, pair-refused}
+use Rattle.sketch_merging.proofs.VerdictCases.{received-refused, other-told}
 use borrow.Author.Needs.{needs}
 use Rattle.sketch_merging.proofs.judge.merge.Statement.{statement}
 use Rattle.sketch_merging.proofs.judge.merge.Tie as tie

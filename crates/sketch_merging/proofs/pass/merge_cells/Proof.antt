@@ -11,7 +11,8 @@ use Rattle.sketch_merging.proofs.pass.merge_cells.Statement.{statement}
 use Rattle.sketch_merging.proofs.pass.merge_cells.Tie as tie
 
 abbrev Inv-loop : tie.InvT-loop
-Inv-loop grid₀ other work₀ t c count n state depth slot after₀ draws₀ start₀ index₀ grid work after draws start index = Going (mergePiece t c n other) (depthOf t) 127038 count grid₀ state grid after draws start index × (length work ≡ 4098)
+Inv-loop grid₀ other work₀ t c count n state depth slot after₀ draws₀ start₀ index₀ grid work after draws start index =
+    Going (mergePiece t c n other) (depthOf t) 127038 count grid₀ state grid after draws start index × (length work ≡ 4098)
 
 abbrev μ-loop : tie.MeasureT-loop
 μ-loop grid₀ other work₀ t c count n state depth slot after₀ draws₀ start₀ index₀ grid work after draws start index = count - index

@@ -1,5 +1,6 @@
 -- `store::judge::cells` meets its contract. What is left to judge decides, since all before it is sound (`Judging`); the measure is how many are left.
-use Rattle.store.proofs.JudgeWork.{cells-fit, t-few, Judging, judging-begin, judging-room, judging-found, judging-on, judging-end, next-index, next-place}
+use Rattle.store.proofs.JudgeWork.{cells-fit, t-few, Judging, judging-begin, judging-room, judging-found, judging-on, judging-end, next-index}
+use Rattle.store.proofs.JudgeWork.{next-place}
 use Prim.Native.Nat.{_-_}
 use borrow.Author.Needs.{needs}
 use Rattle.store.proofs.judge.cells.Statement.{statement}
