@@ -1,9 +1,5 @@
 // Which of the watched codes have newly reached their limit.
-use crate::columns;
 use crate::kept;
-use crate::limits;
-use crate::numbers;
-use crate::numbers::Found;
 use crate::print;
 use crate::slots;
 use crate::slots::Shelf;
@@ -11,8 +7,12 @@ use crate::slots::Slot;
 use crate::usage;
 use crate::usage::Kind;
 use crate::verdicts;
-use crate::words;
 use codes::AskAnswer;
+use program_text::columns;
+use program_text::limits;
+use program_text::numbers;
+use program_text::numbers::Found;
+use program_text::words;
 use sketch::MicroCm;
 
 // The columns of a code among those of all.
@@ -26,7 +26,7 @@ fn tell_code(sketch: MicroCm, columns: &[u32], limits: &[u64], grid: &[u8], code
     let answer = sketch_reading::estimate(sketch, key, grid);
     print::number(b"  code ", code as u64);
     print::text(b" columns=");
-    columns::tell(key);
+    print::columns(key);
     print::number(b" over_items=", answer.over);
     print::number(b" limit=", limits::get(limits, code as usize));
     print::text(b"\n");

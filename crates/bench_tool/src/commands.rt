@@ -14,7 +14,7 @@ use crate::usage;
 use crate::usage::Kind;
 use crate::verdicts;
 use crate::watching;
-use crate::words;
+use program_text::words;
 use sketch::Finding;
 use sketch::MicroCm;
 

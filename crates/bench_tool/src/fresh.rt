@@ -1,6 +1,4 @@
 // A fresh sketch.
-use crate::numbers;
-use crate::numbers::Found;
 use crate::print;
 use crate::slots;
 use crate::slots::Shelf;
@@ -8,10 +6,10 @@ use crate::slots::Slot;
 use crate::usage;
 use crate::usage::Kind;
 use crate::verdicts;
-use crate::words;
-use cell::MicroLayout;
 use cell::MicroParams;
 use clock::SubWindowClock;
+use program_text::numbers;
+use program_text::words;
 use refusal::Verdict;
 use service::Service;
 use service::ServiceAnswer;
@@ -25,37 +23,6 @@ struct Asked {
     seed: u64,
 }
 
-// The number that the word of this place was seen to be.
-fn value(line: &[u8], place: usize) -> u64 {
-    let found = numbers::number(words::word(line, place));
-    match found {
-        Found::Value(value) => value,
-        Found::Nothing => 0,
-    }
-}
-
-fn is_number(line: &[u8], place: usize) -> bool {
-    let found = numbers::number(words::word(line, place));
-    match found {
-        Found::Value(_) => true,
-        Found::Nothing => false,
-    }
-}
-
-// The words from `from` on, `count` of them.
-fn all_numbers(line: &[u8], from: usize, count: usize) -> bool {
-    let mut place = from;
-    let mut left = count;
-    while left > 0 {
-        if !is_number(line, place) {
-            return false;
-        }
-        place = std::num::wrapping_add_usize(place, 1);
-        left -= 1;
-    }
-    true
-}
-
 fn narrow(value: u64) -> u32 {
     if value > 0xFFFF_FFFF {
         return 0xFFFF_FFFF;
@@ -65,11 +32,11 @@ fn narrow(value: u64) -> u32 {
 
 fn settings_of(line: &[u8], clock: SubWindowClock, seed: u64) -> Asked {
     Asked {
-        rows: value(line, 2) as usize,
-        cols: value(line, 3) as usize,
+        rows: numbers::value(line, 2) as usize,
+        cols: numbers::value(line, 3) as usize,
         params: MicroParams {
-            t: value(line, 4) as usize,
-            c: narrow(value(line, 5)),
+            t: numbers::value(line, 4) as usize,
+            c: narrow(numbers::value(line, 5)),
         },
         clock,
         seed,
@@ -149,11 +116,11 @@ fn make(asked: Asked, place: usize, grids: &mut [u8], shelf: Shelf) -> Shelf {
 
 fn counted(line: &[u8], place: usize, grids: &mut [u8], shelf: Shelf) -> Shelf {
     let clock = SubWindowClock::CountBased {
-        items_per_sub_window: value(line, 7),
+        items_per_sub_window: numbers::value(line, 7),
         seen: 0,
     };
     make(
-        settings_of(line, clock, value(line, 8)),
+        settings_of(line, clock, numbers::value(line, 8)),
         place,
         grids,
         shelf,
@@ -161,14 +128,14 @@ fn counted(line: &[u8], place: usize, grids: &mut [u8], shelf: Shelf) -> Shelf {
 }
 
 fn timed(line: &[u8], place: usize, grids: &mut [u8], shelf: Shelf) -> Shelf {
-    let epoch = value(line, 8);
+    let epoch = numbers::value(line, 8);
     let clock = SubWindowClock::TimeBased {
-        sub_window_len: value(line, 7),
+        sub_window_len: numbers::value(line, 7),
         epoch,
         now: epoch,
     };
     make(
-        settings_of(line, clock, value(line, 9)),
+        settings_of(line, clock, numbers::value(line, 9)),
         place,
         grids,
         shelf,
@@ -182,10 +149,10 @@ fn is_form(line: &[u8], name: &[u8], count: usize) -> bool {
     if !check::same(words::word(line, 6), name) {
         return false;
     }
-    if !all_numbers(line, 2, 4) {
+    if !numbers::all_numbers(line, 2, 4) {
         return false;
     }
-    all_numbers(line, 7, std::num::wrapping_sub_usize(count, 7))
+    numbers::all_numbers(line, 7, std::num::wrapping_sub_usize(count, 7))
 }
 
 pub fn new(line: &[u8], grids: &mut [u8], shelf: Shelf) -> Shelf {

@@ -1,7 +1,4 @@
 // The calls that count: items, and time.
-use crate::columns;
-use crate::numbers;
-use crate::numbers::Found;
 use crate::print;
 use crate::slots;
 use crate::slots::Shelf;
@@ -9,7 +6,10 @@ use crate::slots::Slot;
 use crate::usage;
 use crate::usage::Kind;
 use crate::verdicts;
-use crate::words;
+use program_text::columns;
+use program_text::numbers;
+use program_text::numbers::Found;
+use program_text::words;
 use refusal::Verdict;
 use sketch::MicroCm;
 use sketch::SketchAnswer;

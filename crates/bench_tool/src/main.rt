@@ -4,18 +4,13 @@
 // It holds up to four sketches, a to d, and does nothing to them but by the public calls of the crates below it.
 mod asking;
 mod cases;
-mod columns;
 mod commands;
 mod files;
-mod floats;
 mod fresh;
 mod input;
 mod items;
 mod kept;
-mod limits;
-mod lists;
 mod merge;
-mod numbers;
 mod pictures;
 mod print;
 mod readings;
@@ -23,7 +18,6 @@ mod slots;
 mod usage;
 mod verdicts;
 mod watching;
-mod words;
 
 fn main() {
     // A line has to fit this, its line end too.

@@ -5,18 +5,9 @@ use crate::slots::Shelf;
 use crate::slots::Slot;
 use crate::usage;
 use crate::verdicts;
-use crate::words;
+use program_text::words;
 use sketch::MicroCm;
 use sketch::SketchAnswer;
-
-fn copy(to: &mut [u8], from: &[u8]) {
-    let count = from.len();
-    let mut i: usize = 0;
-    while i < count {
-        words::set(to, i, words::get(from, i));
-        i += 1;
-    }
-}
 
 fn merge_into(
     place: usize,
@@ -41,7 +32,7 @@ fn merge_slots(
     grids: &mut [u8],
     room: &mut [u8],
 ) -> SketchAnswer {
-    copy(room, slots::grid(&grids[..], other, its.size));
+    words::copy(room, slots::grid(&grids[..], other, its.size));
     merge_into(
         place,
         mine,

@@ -1,14 +1,14 @@
 // What a sketch says of a key.
-use crate::columns;
-use crate::floats;
-use crate::numbers;
-use crate::numbers::Found;
 use crate::pictures;
 use crate::print;
 use crate::usage;
 use crate::usage::Kind;
 use crate::verdicts;
-use crate::words;
+use program_text::columns;
+use program_text::floats;
+use program_text::numbers;
+use program_text::numbers::Found;
+use program_text::words;
 use sketch::MicroCm;
 use sketch::ReadingAnswer;
 

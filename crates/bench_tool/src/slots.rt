@@ -1,8 +1,8 @@
 // The sketches a to d. The grid of each stands in its own quarter of one lent buffer, and so do the columns and the limits of
 // its watched codes.
-use crate::words;
 use clock::SubWindowClock;
 use codes::Watch;
+use program_text::words;
 use service::Service;
 use sketch::MicroCm;
 ghost use Prim.Native.Nat.{_≤_};

@@ -1,8 +1,5 @@
 // A list of codes to watch is set.
-use crate::columns;
 use crate::kept;
-use crate::limits;
-use crate::lists;
 use crate::print;
 use crate::slots;
 use crate::slots::Shelf;
@@ -10,8 +7,11 @@ use crate::slots::Slot;
 use crate::usage;
 use crate::usage::Kind;
 use crate::verdicts;
-use crate::words;
 use codes::WatchAnswer;
+use program_text::columns;
+use program_text::limits;
+use program_text::lists;
+use program_text::words;
 
 fn set(
     slot: Slot,

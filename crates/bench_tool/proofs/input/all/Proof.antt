@@ -6,10 +6,13 @@ use Rattle.bench_tool.proofs.input.all.Statement.{statement}
 use Rattle.bench_tool.proofs.input.all.Tie as tie
 
 abbrev Inv-loop : tie.InvT-loop
-Inv-loop lines₀ grids₀ store₀ columns₀ limits₀ session₀ turns₀ lines grids store columns limits session turns = (length lines ≡ length lines₀) × (length grids ≡ length grids₀) × (length store ≡ length store₀)
+Inv-loop buffer₀ grids₀ store₀ columns₀ limits₀ session₀ turns₀ buffer grids store columns limits session turns = (length buffer ≡ length buffer₀) × (length grids ≡ length grids₀) × (length store ≡ length store₀)
 
 abbrev μ-loop : tie.MeasureT-loop
-μ-loop lines₀ grids₀ store₀ columns₀ limits₀ session₀ turns₀ lines grids store columns limits session turns = turns
+μ-loop buffer₀ grids₀ store₀ columns₀ limits₀ session₀ turns₀ buffer grids store columns limits session turns = turns
+
+none-requires : tie.Need-none-requires Inv-loop μ-loop
+none-requires c κs = search needs
 
 new-requires : tie.Need-new-requires Inv-loop μ-loop
 new-requires c κs = search needs
@@ -59,6 +62,7 @@ all-spec =
     (tie.spec
     Inv-loop
     μ-loop
+    none-requires
     new-requires
     loop-holds
     turn-requires
