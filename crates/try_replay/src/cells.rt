@@ -1,9 +1,11 @@
 // The file `cells`: its records hold cells beside the header.
 mod call;
 
-use crate::reader;
 use crate::report;
 use crate::tally::Tally;
+use program_text::fields;
+use program_text::print;
+use program_text::words;
 
 // The next record: read, called, compared. `given` has room for the cells of a record, `cell` for the one that a call
 // works on.
@@ -29,16 +31,16 @@ pub fn turn(fd: i32, given: &mut [u8], cell: &mut [u8], tally: Tally) -> Tally {
 
 // The bytes of each cell that follows; 0 if none does.
 fn depth_of(header: &[u8; 80]) -> usize {
-    if reader::u8_at(header, 1) == 0 {
+    if fields::u8_at(header, 1) == 0 {
         return 0;
     }
-    reader::u16_at(header, 6) as usize
+    fields::u16_at(header, 6) as usize
 }
 
 // The bytes of all of them, three at most.
 fn size_of(header: &[u8; 80]) -> usize {
-    let depth = reader::u16_at(header, 6) as usize;
-    let cells = reader::u8_at(header, 1);
+    let depth = fields::u16_at(header, 6) as usize;
+    let cells = fields::u8_at(header, 1);
     match cells {
         0 => 0,
         1 => depth,
@@ -52,10 +54,10 @@ fn compare(header: &[u8; 80], given: &[u8], cell: &mut [u8], tally: Tally) -> Ta
     let depth = cell.len();
     let size = given.len();
     let last = std::num::wrapping_sub_usize(size, depth);
-    let before = reader::part(given, 0, depth);
-    let src = reader::part(given, depth, last);
-    let after = reader::part(given, last, size);
-    fill(cell, before);
+    let before = words::part(given, 0, depth);
+    let src = words::part(given, depth, last);
+    let after = words::part(given, last, size);
+    words::copy(cell, before);
     let call = call::call_of(header);
     let expected = call::expected_of(header);
     let came = call::perform(call, cell, src);
@@ -72,16 +74,10 @@ fn compare(header: &[u8; 80], given: &[u8], cell: &mut [u8], tally: Tally) -> Ta
     tally.failed()
 }
 
-fn fill(cell: &mut [u8], from: &[u8]) {
-    if from.len() <= cell.len() {
-        bytes::copy(from, cell);
-    }
-}
-
 fn show_cells(before: &[u8], src: &[u8], after: &[u8], came: &[u8]) {
     report::bytes(b"cell before", before);
     report::bytes(b"cell merged in", src);
     report::bytes(b"cell expected", after);
     report::bytes(b"cell that came", came);
-    report::text(b"\n");
+    print::text(b"\n");
 }

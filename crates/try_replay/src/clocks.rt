@@ -1,10 +1,12 @@
 // The file `clock`: the calls of the crate clock.
 use crate::answer;
-use crate::reader;
 use crate::report;
 use crate::tally::Tally;
 use clock::MovedAnswer;
 use clock::SubWindowClock;
+use program_text::fields;
+use program_text::floats;
+use program_text::print;
 
 // A clock's fields; its moment is what it has seen, or its now.
 pub struct Fields {
@@ -56,38 +58,38 @@ pub fn turn(fd: i32, tally: Tally) -> Tally {
 
 fn call_of(header: &[u8; 80]) -> Call {
     let clock = Fields {
-        timed: reader::u8_at(header, 1),
-        length: reader::u64_at(header, 8),
-        epoch: reader::u64_at(header, 16),
-        moment: reader::u64_at(header, 24),
+        timed: fields::u8_at(header, 1),
+        length: fields::u64_at(header, 8),
+        epoch: fields::u64_at(header, 16),
+        moment: fields::u64_at(header, 24),
     };
     let other = Fields {
-        timed: reader::u8_at(header, 2),
-        length: reader::u64_at(header, 32),
-        epoch: reader::u64_at(header, 40),
-        moment: reader::u64_at(header, 48),
+        timed: fields::u8_at(header, 2),
+        length: fields::u64_at(header, 32),
+        epoch: fields::u64_at(header, 40),
+        moment: fields::u64_at(header, 48),
     };
     Call {
-        kind: reader::u8_at(header, 0),
+        kind: fields::u8_at(header, 0),
         clock,
-        reading: reader::u64_at(header, 32),
+        reading: fields::u64_at(header, 32),
         other,
     }
 }
 
 fn expected_of(header: &[u8; 80]) -> Answer {
-    let frames = reader::u8_at(header, 0) == 4;
+    let frames = fields::u8_at(header, 0) == 4;
     Answer {
         refused: 0,
         moment: if frames {
-            reader::u64_at(header, 24)
+            fields::u64_at(header, 24)
         } else {
-            reader::u64_at(header, 48)
+            fields::u64_at(header, 48)
         },
-        crossed: reader::u64_at(header, 56),
-        n: reader::u64_at(header, 64),
-        fraction: reader::bits_at(header, 72),
-        same_frame: if frames { reader::u8_at(header, 3) } else { 1 },
+        crossed: fields::u64_at(header, 56),
+        n: fields::u64_at(header, 64),
+        fraction: answer::bits_at(header, 72),
+        same_frame: if frames { fields::u8_at(header, 3) } else { 1 },
     }
 }
 
@@ -139,7 +141,7 @@ fn read(refused: u64, clock: SubWindowClock, crossed: u64, other: SubWindowClock
         moment: fields.moment,
         crossed,
         n: n.n,
-        fraction: answer::bits(fraction.fraction),
+        fraction: floats::bits(fraction.fraction),
         same_frame: answer::flag(clock.same_frame(other)),
     }
 }
@@ -180,12 +182,13 @@ fn same(a: Answer, b: Answer) -> bool {
 fn show_call(call: Call) {
     let kind = call.kind;
     match kind {
-        1 => report::text(b"n and residual_fraction"),
-        2 => report::text(b"tick"),
-        3 => report::text(b"advance_to"),
-        4 => report::text(b"same_frame"),
-        _ => report::text(b"no such kind"),
+        1 => print::text(b"n and residual_fraction"),
+        2 => print::text(b"tick"),
+        3 => print::text(b"advance_to"),
+        4 => print::text(b"same_frame"),
+        _ => print::text(b"no such kind"),
     }
+    ;
     show_clock(call.clock);
     match kind {
         3 => report::with(b"reading", call.reading),
@@ -196,9 +199,9 @@ fn show_call(call: Call) {
 
 pub fn show_clock(fields: Fields) {
     if fields.timed == 0 {
-        report::text(b", count");
+        print::text(b", count");
     } else {
-        report::text(b", time");
+        print::text(b", time");
     }
     report::with(b"length", fields.length);
     report::with(b"epoch", fields.epoch);
@@ -212,5 +215,5 @@ fn show_answers(expected: Answer, came: Answer) {
     report::compare(b"n", expected.n, came.n);
     report::compare_bits(b"fraction", expected.fraction, came.fraction);
     report::compare(b"same frame", expected.same_frame, came.same_frame);
-    report::text(b"\n");
+    print::text(b"\n");
 }

@@ -1,8 +1,10 @@
 // The file `draws`: the calls of the crate rounding.
 use crate::answer;
-use crate::reader;
 use crate::report;
 use crate::tally::Tally;
+use program_text::fields;
+use program_text::numbers;
+use program_text::print;
 use rounding::DivisionAnswer;
 use rounding::Rounding;
 
@@ -45,39 +47,35 @@ pub fn turn(fd: i32, tally: Tally) -> Tally {
 
 fn call_of(header: &[u8; 80]) -> Call {
     Call {
-        kind: reader::u8_at(header, 0),
-        state: reader::u64_at(header, 8),
-        v: reader::u64_at(header, 24),
-        d: reader::u64_at(header, 32),
-        draws: reader::u32_at(header, 4),
+        kind: fields::u8_at(header, 0),
+        state: fields::u64_at(header, 8),
+        v: fields::u64_at(header, 24),
+        d: fields::u64_at(header, 32),
+        draws: fields::u32_at(header, 4),
     }
 }
 
 fn expected_of(header: &[u8; 80]) -> Answer {
     Answer {
         refused: 0,
-        value: reader::u64_at(header, 40),
-        state: reader::u64_at(header, 16),
-        draws: reader::u32_at(header, 4),
+        value: fields::u64_at(header, 40),
+        state: fields::u64_at(header, 16),
+        draws: fields::u32_at(header, 4),
     }
 }
 
+// The format keeps the numbers of kind 3 below 2^32.
 fn perform(call: Call) -> Answer {
     let kind = call.kind;
     let rounding = Rounding { state: call.state };
     match kind {
         1 => run(rounding, 1),
         2 => divided(rounding.unbiased_div_u64(call.v, call.d)),
-        3 => divided(rounding.unbiased_div(narrow(call.v), narrow(call.d))),
+        3 => divided(rounding.unbiased_div(numbers::low_half(call.v), numbers::low_half(call.d))),
         4 => nothing_drawn(0, Rounding::new(call.state)),
         5 => run(rounding, call.draws),
         _ => nothing_drawn(answer::NO_SUCH_KIND, rounding),
     }
-}
-
-// A number that the format keeps below 2^32.
-fn narrow(x: u64) -> u32 {
-    (x % 0x1_0000_0000) as u32
 }
 
 fn nothing_drawn(refused: u64, rounding: Rounding) -> Answer {
@@ -130,13 +128,14 @@ fn same(a: Answer, b: Answer) -> bool {
 fn show_call(call: Call) {
     let kind = call.kind;
     match kind {
-        1 => report::text(b"next_u64"),
-        2 => report::text(b"unbiased_div_u64"),
-        3 => report::text(b"unbiased_div"),
-        4 => report::text(b"Rounding::new"),
-        5 => report::text(b"next_u64 in a row"),
-        _ => report::text(b"no such kind"),
+        1 => print::text(b"next_u64"),
+        2 => print::text(b"unbiased_div_u64"),
+        3 => print::text(b"unbiased_div"),
+        4 => print::text(b"Rounding::new"),
+        5 => print::text(b"next_u64 in a row"),
+        _ => print::text(b"no such kind"),
     }
+    ;
     report::with(b"state or seed", call.state);
     match kind {
         2 | 3 => {
@@ -153,5 +152,5 @@ fn show_answers(expected: Answer, came: Answer) {
     report::compare(b"value", expected.value, came.value);
     report::compare(b"state", expected.state, came.state);
     report::compare(b"draws", expected.draws, came.draws);
-    report::text(b"\n");
+    print::text(b"\n");
 }

@@ -4,11 +4,11 @@ mod answer;
 mod cells;
 mod clocks;
 mod draws;
-mod reader;
 mod report;
 mod sketches;
 mod tally;
 
+use program_text::print;
 use tally::Tally;
 
 enum File {
@@ -58,12 +58,10 @@ fn opened(name: &[u8]) -> i32 {
 
 fn close(fd: i32, name: &[u8], tally: Tally) {
     libc::close(fd);
-    report::text(name);
-    report::text(b": ");
-    report::decimal(tally.calls);
-    report::text(b" calls, ");
-    report::decimal(tally.wrong);
-    report::text(b" wrong\n");
+    print::text(name);
+    print::number(b": ", tally.calls);
+    print::number(b" calls, ", tally.wrong);
+    print::text(b" wrong\n");
 }
 
 fn replay(fd: i32, file: File, given: &mut [u8], cell: &mut [u8]) -> Tally {

@@ -6,10 +6,11 @@ mod key;
 mod perform;
 mod show;
 
-use crate::reader;
 use crate::tally::Tally;
 use call::Answer;
 use call::Call;
+use program_text::columns;
+use program_text::words;
 use sketch::MicroCm;
 
 // How far the file is: the sketch of the slot that a call is on, and the other slot's. Their grids are lent.
@@ -70,8 +71,8 @@ fn turn(fd: i32, first: &mut [u8], second: &mut [u8], progress: Progress) -> Pro
     in_slot(
         call::call_of(&header, &words),
         call::expected_of(&header, &words),
-        reader::part(&columns, 0, column_bytes),
-        reader::part(&shown, 0, grid_bytes),
+        words::part(&columns, 0, column_bytes),
+        words::part(&shown, 0, grid_bytes),
         first,
         second,
         progress,
@@ -156,10 +157,10 @@ fn on_grids(
     compare::compare(
         call,
         expected,
-        key::part(&key, columns.len() / 2),
+        columns::first(&key, columns.len() / 2),
         shown,
         &mut room[0..size],
-        reader::part(other_room, 0, other_size),
+        words::part(other_room, 0, other_size),
         progress,
     )
 }

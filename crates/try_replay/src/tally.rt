@@ -1,5 +1,5 @@
 // How much of a file has been replayed.
-use crate::report;
+use program_text::print;
 
 pub struct Tally {
     pub calls: u64,
@@ -41,7 +41,7 @@ impl Tally {
                 more: false,
             };
         }
-        report::text(b"a record is cut short, or longer than the format allows\n");
+        print::text(b"a record is cut short, or longer than the format allows\n");
         Tally {
             calls: self.calls,
             wrong: std::num::wrapping_add_u64(self.wrong, 1),

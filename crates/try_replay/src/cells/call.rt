@@ -1,10 +1,12 @@
 // The calls of the crate cell, and their answers, as they stand in the headers of the file `cells`.
 use crate::answer;
-use crate::reader;
 use crate::report;
 use cell::CellAnswer;
 use cell::MicroLayout;
 use cell::MicroParams;
+use program_text::fields;
+use program_text::floats;
+use program_text::print;
 use rounding::Rounding;
 
 pub struct Call {
@@ -26,37 +28,37 @@ pub struct Answer {
 
 pub fn call_of(header: &[u8; 80]) -> Call {
     let params = MicroParams {
-        t: reader::u16_at(header, 2) as usize,
-        c: reader::u16_at(header, 4) as u32,
+        t: fields::u16_at(header, 2) as usize,
+        c: fields::u16_at(header, 4) as u32,
     };
     Call {
-        kind: reader::u8_at(header, 0),
+        kind: fields::u8_at(header, 0),
         params,
-        n: reader::u64_at(header, 16),
-        crossed: reader::u64_at(header, 24),
-        state: reader::u64_at(header, 32),
+        n: fields::u64_at(header, 16),
+        crossed: fields::u64_at(header, 24),
+        state: fields::u64_at(header, 32),
     }
 }
 
 pub fn expected_of(header: &[u8; 80]) -> Answer {
-    let kind = reader::u8_at(header, 0);
+    let kind = fields::u8_at(header, 0);
     match kind {
         4 => Answer {
             refused: 0,
-            first: reader::u16_at(header, 6),
-            second: reader::u64_at(header, 16),
-            third: reader::u64_at(header, 24),
+            first: fields::u16_at(header, 6),
+            second: fields::u64_at(header, 16),
+            third: fields::u64_at(header, 24),
         },
         5 => Answer {
             refused: 0,
-            first: reader::u64_at(header, 32),
-            second: reader::u64_at(header, 40),
-            third: reader::bits_at(header, 24),
+            first: fields::u64_at(header, 32),
+            second: fields::u64_at(header, 40),
+            third: answer::bits_at(header, 24),
         },
         _ => Answer {
             refused: 0,
-            first: reader::u32_at(header, 8),
-            second: reader::u64_at(header, 40),
+            first: fields::u32_at(header, 8),
+            second: fields::u64_at(header, 40),
             third: 0,
         },
     }
@@ -119,7 +121,7 @@ fn fields(cell: &[u8], params: MicroParams, n: u64) -> Answer {
         refused: answer::first(refused, answer::refusal(pixel_verdict)),
         first: zoom.zoom as u64,
         second: shutter.shutter as u64,
-        third: answer::bits(pixel.items),
+        third: floats::bits(pixel.items),
     }
 }
 
@@ -136,13 +138,14 @@ pub fn show(call: Call, expected: Answer, came: Answer) {
 fn show_call(call: Call) {
     let kind = call.kind;
     match kind {
-        1 => report::text(b"insert"),
-        2 => report::text(b"enter_sub_window"),
-        3 => report::text(b"merge_cells"),
-        4 => report::text(b"MicroLayout::new and max_zoom"),
-        5 => report::text(b"zoom, shutter and scaled_pixel"),
-        _ => report::text(b"no such kind"),
+        1 => print::text(b"insert"),
+        2 => print::text(b"enter_sub_window"),
+        3 => print::text(b"merge_cells"),
+        4 => print::text(b"MicroLayout::new and max_zoom"),
+        5 => print::text(b"zoom, shutter and scaled_pixel"),
+        _ => print::text(b"no such kind"),
     }
+    ;
     report::with(b"t", call.params.t as u64);
     report::with(b"c", call.params.c as u64);
     if kind != 4 {

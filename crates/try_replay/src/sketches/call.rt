@@ -1,8 +1,9 @@
 // A call on a sketch and its answer, as they stand in a record of the file `sketches`.
+use crate::answer;
 use crate::clocks;
 use crate::clocks::Fields;
-use crate::reader;
 use cell::MicroParams;
+use program_text::fields;
 use rounding::Rounding;
 use sketch::MicroCm;
 
@@ -45,69 +46,69 @@ pub struct Answer {
 }
 
 pub fn word_bytes(header: &[u8; 80]) -> usize {
-    reader::u8_at(header, 3) as usize * 8
+    fields::u8_at(header, 3) as usize * 8
 }
 
 pub fn column_bytes(header: &[u8; 80]) -> usize {
-    reader::u16_at(header, 4) as usize * 2
+    fields::u16_at(header, 4) as usize * 2
 }
 
 pub fn grid_bytes(header: &[u8; 80]) -> usize {
-    reader::u32_at(header, 8) as usize
+    fields::u32_at(header, 8) as usize
 }
 
 pub fn call_of(header: &[u8; 80], words: &[u8; 80]) -> Call {
     Call {
-        kind: reader::u8_at(header, 0),
-        slot: reader::u8_at(header, 1),
-        times: reader::u32_at(header, 12),
-        argument: reader::u64_at(header, 16),
+        kind: fields::u8_at(header, 0),
+        slot: fields::u8_at(header, 1),
+        times: fields::u32_at(header, 12),
+        argument: fields::u64_at(header, 16),
         fresh: fresh_of(words),
-        moment: reader::u64_at(words, 0),
-        state: reader::u64_at(words, 8),
+        moment: fields::u64_at(words, 0),
+        state: fields::u64_at(words, 8),
     }
 }
 
 // The clock's seen or now is 0 here: a fresh sketch has its own.
 pub fn fresh_of(words: &[u8; 80]) -> MicroCm {
     let clock = Fields {
-        timed: reader::u64_at(words, 32),
-        length: reader::u64_at(words, 40),
-        epoch: reader::u64_at(words, 48),
+        timed: fields::u64_at(words, 32),
+        length: fields::u64_at(words, 40),
+        epoch: fields::u64_at(words, 48),
         moment: 0,
     };
     let params = MicroParams {
-        t: reader::u64_at(words, 16) as usize,
-        c: reader::u32_at(words, 24) as u32,
+        t: fields::u64_at(words, 16) as usize,
+        c: fields::u32_at(words, 24) as u32,
     };
     MicroCm {
-        rows: reader::u64_at(words, 0) as usize,
-        cols: reader::u64_at(words, 8) as usize,
+        rows: fields::u64_at(words, 0) as usize,
+        cols: fields::u64_at(words, 8) as usize,
         params,
         clock: clocks::clock_of(clock),
         rounding: Rounding {
-            state: reader::u64_at(words, 56),
+            state: fields::u64_at(words, 56),
         },
     }
 }
 
 pub fn expected_of(header: &[u8; 80], words: &[u8; 80]) -> Answer {
-    let kind = reader::u8_at(header, 0);
+    let kind = fields::u8_at(header, 0);
     let figures = match kind {
         6 | 7 => figures_of(words),
         _ => no_figures(),
     };
     let value = match kind {
-        8 | 9 => reader::u64_at(words, 0),
+        8 | 9 => fields::u64_at(words, 0),
         _ => 0,
     };
     Answer {
-        refused: reader::u8_at(header, 2),
-        n: reader::u64_at(header, 24),
-        moment: reader::u64_at(header, 32),
-        state: reader::u64_at(header, 40),
-        draws: reader::u64_at(header, 48),
-        digest: reader::u64_at(header, 56),
+        refused: fields::u8_at(header, 2),
+        n: fields::u64_at(header, 24),
+        moment: fields::u64_at(header, 32),
+        state: fields::u64_at(header, 40),
+        draws: fields::u64_at(header, 48),
+        digest: fields::u64_at(header, 56),
         kept: 1,
         figures,
         value,
@@ -115,13 +116,13 @@ pub fn expected_of(header: &[u8; 80], words: &[u8; 80]) -> Answer {
 }
 
 fn figures_of(words: &[u8; 80]) -> Figures {
-    let over = reader::bits_at(words, 0);
-    let under = reader::bits_at(words, 8);
+    let over = answer::bits_at(words, 0);
+    let under = answer::bits_at(words, 8);
     Figures {
         over,
         under,
-        linear: reader::bits_at(words, 16),
-        fraction: reader::bits_at(words, 24),
+        linear: answer::bits_at(words, 16),
+        fraction: answer::bits_at(words, 24),
         whole_over: over,
         whole_under: under,
     }

@@ -1,5 +1,4 @@
 // One call, and what came of it beside what the record has.
-use crate::reader;
 use crate::report;
 use crate::sketches::Progress;
 use crate::sketches::call;
@@ -8,6 +7,7 @@ use crate::sketches::call::Call;
 use crate::sketches::grid;
 use crate::sketches::perform;
 use crate::sketches::show;
+use program_text::words;
 
 // After a wrong call the sketch goes on as our call left it.
 pub fn compare(
@@ -20,7 +20,7 @@ pub fn compare(
     progress: Progress,
 ) -> Progress {
     let mut copy = [0u8; 200];
-    let copied = grid::keep(&grid[..], &mut copy);
+    words::copy(&mut copy, &grid[..]);
     let before = call::subject(call, progress.sketch);
     let other = progress.other;
     let tally = progress.tally;
@@ -41,7 +41,7 @@ pub fn compare(
         show::answers(call.kind, expected, came);
         show::grids(
             call.kind,
-            reader::part(&copy, 0, copied),
+            words::part(&copy, 0, grid.len()),
             other_grid,
             shown,
             &grid[..],

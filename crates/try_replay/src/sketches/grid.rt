@@ -45,14 +45,6 @@ fn step(sum: u64, byte: u8) -> u64
     (sum * 257 + byte as u64 + 1) % MODULUS
 }
 
-// Copies a grid, if there is room for it; returns how many bytes.
-pub fn keep(grid: &[u8], copy: &mut [u8]) -> usize {
-    if copy.len() < grid.len() {
-        return 0;
-    }
-    bytes::copy(grid, copy)
-}
-
 // Whether a grid is the one that a record shows, if it shows one.
 pub fn as_shown(grid: &[u8], shown: &[u8]) -> bool {
     if shown.len() == 0 {

@@ -2,12 +2,13 @@
 use crate::answer;
 use crate::clocks;
 use crate::clocks::Fields;
-use crate::reader;
 use crate::sketches::call;
 use crate::sketches::call::Answer;
 use crate::sketches::call::Call;
 use crate::sketches::call::Figures;
 use crate::sketches::grid;
+use program_text::floats;
+use program_text::words;
 use rounding::Rounding;
 use sketch::HighestAnswer;
 use sketch::MicroCm;
@@ -41,7 +42,7 @@ pub fn perform(
         6 => read(sketch, sketch_reading::estimate(sketch, key, &grid[..])),
         7 => read(
             sketch,
-            sketch_reading::estimate_with(sketch, key, reader::float(call.argument), &grid[..]),
+            sketch_reading::estimate_with(sketch, key, floats::of_bits(call.argument), &grid[..]),
         ),
         8 => merged(sketch, grid, other, other_grid),
         9 => highest(sketch, sketch_queries::max_zoom(sketch, &grid[..])),
@@ -82,7 +83,7 @@ fn written(shown: &[u8], grid: &mut [u8]) -> u64 {
     if shown.len() != grid.len() {
         return answer::NO_SUCH_KIND;
     }
-    bytes::copy(shown, grid);
+    words::copy(grid, shown);
     0
 }
 
@@ -145,10 +146,10 @@ fn read(sketch: MicroCm, answer: ReadingAnswer) -> Outcome {
         sketch,
         draws: 0,
         figures: Figures {
-            over: answer::bits(figures.over),
-            under: answer::bits(figures.under),
-            linear: answer::bits(figures.linear),
-            fraction: answer::bits(figures.fraction),
+            over: floats::bits(figures.over),
+            under: floats::bits(figures.under),
+            linear: floats::bits(figures.linear),
+            fraction: floats::bits(figures.fraction),
             whole_over: whole(answer.over),
             whole_under: whole(answer.under),
         },
@@ -158,7 +159,7 @@ fn read(sketch: MicroCm, answer: ReadingAnswer) -> Outcome {
 
 // A whole number's bits as f64.
 fn whole(n: u64) -> u64 {
-    answer::bits(std::num::nearest_u64_to_f64(n))
+    floats::bits(std::num::nearest_u64_to_f64(n))
 }
 
 fn merged(sketch: MicroCm, grid: &mut [u8], other: MicroCm, other_grid: &[u8]) -> Outcome {

@@ -4,6 +4,7 @@ use crate::report;
 use crate::sketches::call::Answer;
 use crate::sketches::call::Call;
 use crate::sketches::call::Figures;
+use program_text::print;
 use sketch::MicroCm;
 
 // The call, and the sketch as it was before it.
@@ -16,18 +17,19 @@ pub fn call(call: Call, sketch: MicroCm) {
 
 fn name(kind: u64) {
     match kind {
-        1 => report::text(b"with_dimensions"),
-        2 => report::text(b"seen or now, and the state, set"),
-        3 => report::text(b"update"),
-        4 => report::text(b"update_at"),
-        5 => report::text(b"advance_to"),
-        6 => report::text(b"estimate"),
-        7 => report::text(b"estimate_with"),
-        8 => report::text(b"merge"),
-        9 => report::text(b"max_zoom"),
-        10 => report::text(b"the grid set"),
-        _ => report::text(b"no such kind"),
+        1 => print::text(b"with_dimensions"),
+        2 => print::text(b"seen or now, and the state, set"),
+        3 => print::text(b"update"),
+        4 => print::text(b"update_at"),
+        5 => print::text(b"advance_to"),
+        6 => print::text(b"estimate"),
+        7 => print::text(b"estimate_with"),
+        8 => print::text(b"merge"),
+        9 => print::text(b"max_zoom"),
+        10 => print::text(b"the grid set"),
+        _ => print::text(b"no such kind"),
     }
+    ;
 }
 
 fn settings(sketch: MicroCm) {
@@ -101,7 +103,7 @@ pub fn grids(kind: u64, before: &[u8], other: &[u8], expected: &[u8], came: &[u8
     }
     report::bytes(b"grid expected", expected);
     report::bytes(b"grid that came", small(came));
-    report::text(b"\n");
+    print::text(b"\n");
 }
 
 fn small(grid: &[u8]) -> &[u8] {
@@ -114,21 +116,6 @@ fn small(grid: &[u8]) -> &[u8] {
 pub fn key(columns: &[u32]) {
     if columns.len() > 0 {
         report::part(b"key");
-        list(columns);
+        print::columns(columns, b" ");
     }
-}
-
-fn list(columns: &[u32]) {
-    let mut row: usize = 0;
-    while row < columns.len() {
-        column(row, columns[row]);
-        row += 1;
-    }
-}
-
-fn column(row: usize, col: u32) {
-    if row > 0 {
-        report::text(b" ");
-    }
-    report::decimal(col as u64);
 }
