@@ -1,6 +1,7 @@
 // Rounded divisions one after another. The numbers divided are drawn as well, from a random state of their own.
 use crate::course;
-use crate::print;
+use crate::verdicts;
+use program_text::print;
 use refusal::Verdict;
 use rounding::DivisionAnswer;
 use rounding::Rounding;
@@ -40,7 +41,7 @@ fn divide(rounding: Rounding, value: u64, divisor: u64) -> DivisionAnswer {
 fn print_answer(answer: DivisionAnswer) {
     let verdict = answer.verdict;
     let rounding = answer.rounding;
-    print::verdict(verdict);
+    verdicts::tell(verdict);
     print::number(b", value ", answer.value);
     print::number(b", draws ", answer.draws as u64);
     print::number(b", state ", rounding.state);
@@ -52,7 +53,7 @@ pub fn single(value: u64, divisor: u64, state: u64) {
     print::number(b" / ", divisor);
     print::number(b" from state ", state);
     print_answer(divide(Rounding { state }, value, divisor));
-    print::words(b"\n");
+    print::text(b"\n");
 }
 
 fn drawn(operand: Operand, draw: u64) -> u64 {
@@ -83,7 +84,7 @@ fn print_totals(progress: Progress) {
     print::number(b"; in all: draws ", progress.draws);
     print::number(b", refused ", progress.refused);
     print::number(b", digest ", progress.digest);
-    print::words(b"\n");
+    print::text(b"\n");
 }
 
 fn turn(before: Progress, value: Operand, divisor: Operand, count: u64) -> Progress {
@@ -117,9 +118,9 @@ fn turns(start: Progress, value: Operand, divisor: Operand) {
 
 // Each run rounds from the seed 1 and draws its numbers from the seed 2.
 pub fn run(title: &[u8], value: Operand, divisor: Operand) {
-    print::words(b"divisions: ");
-    print::words(title);
-    print::words(b"\n");
+    print::text(b"divisions: ");
+    print::text(title);
+    print::text(b"\n");
     let start = Progress {
         rounding: Rounding::new(1),
         source: Rounding::new(2),

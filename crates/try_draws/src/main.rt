@@ -2,8 +2,8 @@
 // must print was made by a C program that shares nothing with it (docs/DRAWS.md).
 mod course;
 mod division;
-mod print;
 mod sequence;
+mod verdicts;
 
 use division::Operand;
 

@@ -1,6 +1,7 @@
 // Draws one after another.
 use crate::course;
-use crate::print;
+use crate::verdicts;
+use program_text::print;
 use rounding::DrawAnswer;
 use rounding::Rounding;
 
@@ -13,7 +14,7 @@ struct Progress {
 fn print_answer(answer: DrawAnswer) {
     let verdict = answer.verdict;
     let rounding = answer.rounding;
-    print::verdict(verdict);
+    verdicts::tell(verdict);
     print::number(b", value ", answer.value);
     print::number(b", state ", rounding.state);
 }
@@ -23,7 +24,7 @@ pub fn single(state: u64) {
     let start = Rounding { state };
     print::number(b"draw from state ", state);
     print_answer(start.next_u64());
-    print::words(b"\n");
+    print::text(b"\n");
 }
 
 fn turn(before: Progress, count: u64) -> Progress {
@@ -35,7 +36,7 @@ fn turn(before: Progress, count: u64) -> Progress {
         print::number(b"  draw ", count);
         print_answer(answer);
         print::number(b", digest ", digest);
-        print::words(b"\n");
+        print::text(b"\n");
     }
     Progress { rounding, digest }
 }
@@ -51,7 +52,7 @@ fn turns(start: Progress) {
 
 pub fn run(seed: u64) {
     print::number(b"draws from seed ", seed);
-    print::words(b"\n");
+    print::text(b"\n");
     turns(Progress {
         rounding: Rounding::new(seed),
         digest: 0,
