@@ -1,12 +1,12 @@
 // Which of the watched codes have newly reached their limit.
 use crate::kept;
-use crate::print;
 use crate::slots;
 use crate::slots::Shelf;
 use crate::slots::Slot;
-use crate::usage;
-use crate::usage::Kind;
-use crate::verdicts;
+use bench_tool_answers::print;
+use bench_tool_answers::usage;
+use bench_tool_answers::usage::Kind;
+use bench_tool_answers::verdicts;
 use codes::AskAnswer;
 use program_text::columns;
 use program_text::limits;

@@ -5,56 +5,14 @@ use crate::files;
 use crate::fresh;
 use crate::items;
 use crate::merge;
-use crate::pictures;
-use crate::print;
-use crate::readings;
 use crate::slots;
 use crate::slots::Shelf;
-use crate::usage;
-use crate::usage::Kind;
-use crate::verdicts;
 use crate::watching;
+use bench_tool_answers::print;
+use bench_tool_answers::queries;
+use bench_tool_answers::usage;
+use bench_tool_answers::usage::Kind;
 use program_text::words;
-use sketch::Finding;
-use sketch::MicroCm;
-
-fn audit(sketch: MicroCm, grid: &[u8]) {
-    let answer = sketch_queries::audit(sketch, grid);
-    let verdict = answer.verdict;
-    if !verdict.accepted() {
-        verdicts::refused(verdict);
-        return;
-    }
-    let finding = answer.audit;
-    match finding {
-        Finding::Sound => print::text(b"ok sound"),
-        Finding::Unsound(index) => print::number(b"ok unsound index=", index as u64),
-    }
-    print::text(b"\n");
-}
-
-fn zoom(sketch: MicroCm, grid: &[u8]) {
-    let answer = sketch_queries::max_zoom(sketch, grid);
-    let verdict = answer.verdict;
-    if !verdict.accepted() {
-        verdicts::refused(verdict);
-        return;
-    }
-    print::number(b"ok zoom=", answer.zoom as u64);
-    print::text(b"\n");
-}
-
-fn dump(sketch: MicroCm, grid: &[u8]) {
-    let clock = sketch.clock;
-    let rounding = sketch.rounding;
-    let now = clock.n();
-    print::number(b"ok clock=", slots::moment(clock));
-    print::number(b" n=", now.n);
-    print::hex(b" state=0x", rounding.state);
-    print::text(b" grid=");
-    print::bytes(grid);
-    print::text(b"\n");
-}
 
 fn say(line: &[u8]) {
     print::text(words::rest(line, 1));
@@ -66,16 +24,7 @@ fn look(kind: Kind, line: &[u8], grids: &[u8], shelf: Shelf) {
     let place = slots::place(words::word(line, 1));
     let slot = shelf.get(place);
     let grid = slots::grid(grids, place, slot.size);
-    let sketch = slot.sketch;
-    match kind {
-        Kind::Read | Kind::Mean => readings::tell(kind, line, sketch, grid),
-        Kind::Cell => pictures::one_cell(line, sketch, grid),
-        Kind::Grid => pictures::map(sketch, grid),
-        Kind::Audit => audit(sketch, grid),
-        Kind::Zoom => zoom(sketch, grid),
-        Kind::Dump => dump(sketch, grid),
-        _ => usage::expected(Kind::Unknown),
-    }
+    queries::answer(kind, line, slot.sketch, grid);
 }
 
 // The commands on a sketch that is there.

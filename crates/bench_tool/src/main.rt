@@ -11,12 +11,7 @@ mod input;
 mod items;
 mod kept;
 mod merge;
-mod pictures;
-mod print;
-mod readings;
 mod slots;
-mod usage;
-mod verdicts;
 mod watching;
 
 fn main() {

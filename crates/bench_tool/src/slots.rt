@@ -1,6 +1,5 @@
 // The sketches a to d. The grid of each stands in its own quarter of one lent buffer, and so do the columns and the limits of
 // its watched codes.
-use clock::SubWindowClock;
 use codes::Watch;
 use program_text::words;
 use service::Service;
@@ -84,14 +83,6 @@ pub fn span_of(place: usize, size: usize, length: usize) -> Span
 pub fn grid(grids: &[u8], place: usize, size: usize) -> &[u8] {
     let span = span_of(place, size, grids.len());
     words::part(grids, span.from, span.to)
-}
-
-// What a clock has seen, or its now.
-pub fn moment(clock: SubWindowClock) -> u64 {
-    match clock {
-        SubWindowClock::CountBased { seen, .. } => seen,
-        SubWindowClock::TimeBased { now, .. } => now,
-    }
 }
 
 // No bytes are no store: what comes of such a load is a sketch that every call refuses.
