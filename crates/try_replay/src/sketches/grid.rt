@@ -7,11 +7,9 @@ const MODULUS: u64 = 36_028_797_018_963_913;
 
 // How many a sketch has, and 0 where it is out of the format's bounds.
 pub fn size_of(sketch: MicroCm) -> usize {
-    let params = sketch.params;
-    if params.t > 4096 {
-        return 0;
-    }
-    size(sketch.rows, sketch.cols, (params.t + 10) / 4 * 4)
+    let answer = cell_reading::layout(sketch.params);
+    let layout = answer.layout;
+    size(sketch.rows, sketch.cols, layout.depth)
 }
 
 fn size(rows: usize, cols: usize, depth: usize) -> usize {
