@@ -36,27 +36,29 @@ module _ (at width : ℕ) (b : List ℕ) where
   field-few r room h = rw (add-sub-cancel-left at width, part-length at width b room) at h
 
 -- THE HEADER
-pub settings-written : (k : MicroCm) (kind : ℕ) (b₀ b₁ b₂ b₃ b₄ b₅ b₆ : List ℕ) → kind ≡ kindOf (k .clock) → length b₆ ≡ 24
+pub settings-written : (k : MicroCm) (kind : ℕ) (b₀ b₁ b₂ b₃ b₄ b₅ b₆ : List ℕ) → kind ≡ kindOf (k .clock)
     → Put 20 4 kind b₅ b₆
     → Put 16 4 (k .params .c) b₄ b₅
     → Put 12 4 (k .params .t) b₃ b₄
     → Put 8 4 (k .cols) b₂ b₃
     → Put 4 4 (k .rows) b₁ b₂
     → Put 0 4 1 b₀ b₁
+    → length b₆ ≡ 24
     → b₆ ≡ take 24 (headerOf k)
 unfolding headerWith bytesOf
-settings-written k kind b₀ b₁ b₂ b₃ b₄ b₅ b₆ ek long e₆ e₅ e₄ e₃ e₂ e₁ =
+settings-written k kind b₀ b₁ b₂ b₃ b₄ b₅ b₆ ek e₆ e₅ e₄ e₃ e₂ e₁ long =
     sym (take-all 24 b₆ (omega arith)) ∙ e₆ .is ∙ rw (e₅ .is, e₄ .is, e₃ .is, e₂ .is, e₁ .is, ek)
 
 pub state-written : (k : MicroCm) (len epoch reading : ℕ) (b₀ b₁ b₂ b₃ b₄ : List ℕ)
-    → len ≡ lengthOf (k .clock) → epoch ≡ epochOf (k .clock) → reading ≡ readingOf (k .clock) → length b₄ ≡ 32
+    → len ≡ lengthOf (k .clock) → epoch ≡ epochOf (k .clock) → reading ≡ readingOf (k .clock)
     → Put 24 8 (k .rounding .state) b₃ b₄
     → Put 16 8 reading b₂ b₃
     → Put 8 8 epoch b₁ b₂
     → Put 0 8 len b₀ b₁
+    → length b₄ ≡ 32
     → b₄ ≡ drop 24 (headerOf k)
 unfolding headerWith bytesOf
-state-written k len epoch reading b₀ b₁ b₂ b₃ b₄ el ee er long e₄ e₃ e₂ e₁ =
+state-written k len epoch reading b₀ b₁ b₂ b₃ b₄ el ee er e₄ e₃ e₂ e₁ long =
     sym (take-all 32 b₄ (omega arith)) ∙ e₄ .is ∙ rw (e₃ .is, e₂ .is, e₁ .is, er, ee, el)
 
 pub header-written : (k : MicroCm) (b u v : List ℕ) → length b ≡ 56 → u ≡ take 24 (headerOf k) → v ≡ drop 24 (headerOf k)

@@ -69,13 +69,17 @@ same-length-2 c = search needs
 
 returns-4 : tie.Need-returns-4
 returns-4 c =
-    let copied = c .before .before .before in
+    let given-back = c .before .before in
+    let copied = given-back .before in
     let judged = copied .before .before in
     let behind = judged .before .before in
-    let opened = behind .before .before .before in
+    let told = behind .before .before in
+    let opened = told .before in
     let answered = opened .before .before in
     let blocks = answered .before .before in
-    load-done _ _ _ _ (blocks .before .before .whole .ensures) (blocks .before .accepted .ensures) (blocks .if1 .left) _ (answered .header-in .ensures) _ (opened .header .given .1) _ _ (behind .behind-header .ensures) (judged .before .accepted2 .ensures) (judged .if2 .left) _ (copied .copy-out .ensures) _ (c .undrawn .ensures)
+    load-done _ _ _ _ (blocks .before .before .whole .ensures) (blocks .before .accepted .ensures) (blocks .if1 .left) _
+    (answered .header-in .ensures) _ (opened .header .given .1) _ _ (behind .behind-header .ensures) (judged .before .accepted2 .ensures)
+    (judged .if2 .left) _ (copied .copy-out .ensures) _ (c .undrawn .ensures)
 
 pub load-spec : {M : Type 1} → statement M
 load-spec =

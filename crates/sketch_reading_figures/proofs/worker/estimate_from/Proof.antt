@@ -8,7 +8,10 @@ sub-window-requires : tie.Need-sub-window-requires
 sub-window-requires c κs = search needs
 
 under-from-requires : tie.Need-under-from-requires
-under-from-requires c κs = (search needs, c .before .before .before .before .before .pre .1)
+under-from-requires c κs =
+    let known = c .before .before in
+    let entered = known .before .before in
+    (search needs, entered .before .pre .1)
 
 below-window-requires : tie.Need-below-window-requires
 below-window-requires c κs = search needs

@@ -7,7 +7,7 @@ fill-units-requires : tie.Need-fill-units-requires
 fill-units-requires c κs = search needs
 
 estimate-from-requires : tie.Need-estimate-from-requires
-estimate-from-requires c κs = (search needs, c .before .before .before .fill-units .ensures)
+estimate-from-requires c κs = let given-back = c .before .before in (search needs, given-back .before .fill-units .ensures)
 
 same-length : tie.Need-same-length
 same-length c = search needs

@@ -39,7 +39,10 @@ loop-less : tie.Need-loop-less Inv-loop μ-loop
 loop-less c = search needs
 
 loop-again : tie.Need-loop-again Inv-loop μ-loop
-loop-again c = leasting-on _ _ _ _ _ _ (c .before .before .before .before .loop .inv) _ _ (search needs) (c .before .row-items2 .ensures .0) (c .smaller .ensures)
+loop-again c =
+    let read = c .before .before in
+    let turn = read .before in
+    leasting-on _ _ _ _ _ _ (turn .before .loop .inv) _ _ (search needs) (c .before .row-items2 .ensures .0) (c .smaller .ensures)
 
 returns : tie.Need-returns Inv-loop μ-loop
 returns c = (search (leasting-end, needs), search needs)

@@ -11,7 +11,10 @@ sub-sum-back : tie.Need-sub-sum-back
 sub-sum-back c = search needs
 
 sum-back-requires : tie.Need-sum-back-requires
-sum-back-requires c κs = (search needs, (c .before .before .before .before .before .pre .1, (search needs, omega arith)))
+sum-back-requires c κs =
+    let known = c .before .before in
+    let entered = known .before .before in
+    (search needs, (entered .before .pre .1, (search needs, omega arith)))
 
 returns : tie.Need-returns
 returns c = search needs

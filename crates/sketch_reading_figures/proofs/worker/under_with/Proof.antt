@@ -8,7 +8,7 @@ fill-units-requires : tie.Need-fill-units-requires
 fill-units-requires c κs = search needs
 
 under-from-requires : tie.Need-under-from-requires
-under-from-requires c κs = (search needs, c .before .before .before .fill-units .ensures)
+under-from-requires c κs = let given-back = c .before .before in (search needs, given-back .before .fill-units .ensures)
 
 same-length : tie.Need-same-length
 same-length c = search needs

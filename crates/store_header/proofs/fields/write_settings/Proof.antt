@@ -31,15 +31,25 @@ put-field-requires-6 c κs = search needs
 same-length : tie.Need-same-length
 same-length c = search needs
 
+-- `search` stands outside the `let`: a name bound there is one more record for it to enter, and it enters 128
 returns : tie.Need-returns
 returns c =
-    let six = c .before .before in
-    let five = six .before .before .before .before .before in
-    let four = five .before .before .before .before .before in
-    let three = four .before .before .before .before in
-    let two = three .before .before .before .before in
-    let one = two .before .before .before .before in
-    settings-written _ _ _ _ _ _ _ _ _ (six .before .kind .ensures) (search needs) (six .put-field6 .ensures) (five .put-field5 .ensures) (four .put-field4 .ensures) (three .put-field3 .ensures) (two .put-field2 .ensures) (one .put-field .ensures)
+    (let six = c .before .before in
+    let kind-told = six .before in
+    let lent-six = kind-told .before .before in
+    let five = lent-six .before .before in
+    let cast = five .before in
+    let lent-five = cast .before .before in
+    let four = lent-five .before .before in
+    let lent-four = four .before .before in
+    let three = lent-four .before .before in
+    let lent-three = three .before .before in
+    let two = lent-three .before .before in
+    let lent-two = two .before .before in
+    let one = lent-two .before .before in
+    settings-written _ _ _ _ _ _ _ _ _ (kind-told .kind .ensures) (six .put-field6 .ensures) (five .put-field5 .ensures)
+    (four .put-field4 .ensures) (three .put-field3 .ensures) (two .put-field2 .ensures) (one .put-field .ensures))
+    (search needs)
 
 pub write-settings-spec : {M : Type 1} → statement M
 write-settings-spec =

@@ -28,13 +28,21 @@ put-field-requires-4 c κs = search needs
 same-length : tie.Need-same-length
 same-length c = search needs
 
+-- `search` stands outside the `let`: a name bound there is one more record for it to enter, and it enters 128
 returns : tie.Need-returns
 returns c =
-    let four = c .before .before in
-    let three = four .before .before .before .before in
-    let two = three .before .before .before .before .before in
-    let one = two .before .before .before .before .before in
-    state-written _ _ _ _ _ _ _ _ _ (one .before .length .ensures) (two .before .epoch .ensures) (three .before .reading .ensures) (search needs) (four .put-field4 .ensures) (three .put-field3 .ensures) (two .put-field2 .ensures) (one .put-field .ensures)
+    (let four = c .before .before in
+    let lent-four = four .before .before in
+    let three = lent-four .before .before in
+    let reading-told = three .before in
+    let lent-three = reading-told .before .before in
+    let two = lent-three .before .before in
+    let epoch-told = two .before in
+    let lent-two = epoch-told .before .before in
+    let one = lent-two .before .before in
+    state-written _ _ _ _ _ _ _ _ _ (one .before .length .ensures) (epoch-told .epoch .ensures) (reading-told .reading .ensures)
+    (four .put-field4 .ensures) (three .put-field3 .ensures) (two .put-field2 .ensures) (one .put-field .ensures))
+    (search needs)
 
 pub write-state-spec : {M : Type 1} → statement M
 write-state-spec =
