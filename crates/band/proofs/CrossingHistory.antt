@@ -9,7 +9,7 @@ use native.Mathlib.Omega.{arith}
 use native.Mathlib.Decide.{ℕ-discrete}
 use native.Mathlib.Nat.{add-zero, add-sub-cancel, mul-zero, one-le-pow}
 use borrow.Author.Tests.{leb-true, leb-false, eqb-true, eqb-false}
-use Rattle.laws.specs.Steps.{Step, still, leaving, later}
+use Rattle.laws.specs.Steps.{Step, still, leaving, later, made}
 use Rattle.laws.proofs.ChoiceLaws.{either}
 use Rattle.rounding.specs.declared.Divided.{Divided}
 use Rattle.rounding.specs.Draws.{roundedDiv}
@@ -56,7 +56,7 @@ module _ {t c P n : ℕ} {x : ℕ → ℕ} {b : List ℕ} (top : P < maxZoom c) 
   pub close-holds : Closed (closeOf t c (slotOf t n) b σ)
   unfolding closeOf
   close-holds =
-      either Closed (eqb (coin .value) 0) (record { bytes = withShutter t 0 b; state = coin .state; draws = coin .draws })
+      either Closed (eqb (coin .value) 0) (made (withShutter t 0 b) (coin .state) (coin .draws))
       (later (coin .draws) (creditOf t c (slotOf t n) (withShutter t 0 b) (coin .state))) (λ e l. down) (λ e. up (eqb-false _ _ e))
 
 -- CLEAR, of k sub-windows

@@ -4,7 +4,7 @@ use mathlib.Core.Path.{_≡_, refl, sym, _∙_}
 use mathlib.Core.List.{[], _∷_}
 use native.Mathlib.Omega.{arith}
 use native.Mathlib.Nat.{zero-add}
-use Rattle.laws.specs.Steps.{still}
+use Rattle.laws.specs.Steps.{still, made}
 use Rattle.laws.specs.Powers.{highest}
 use Rattle.laws.specs.Bytes.{numberOf, bytesOf}
 use Rattle.rounding.specs.Draws.{xorDown, xorUp, nextState, yielded, drawOf, roundedDiv}
@@ -24,7 +24,7 @@ unfolding roundedDiv
 none τ = refl
 
 -- an even draw takes 511 up to 256, which does not fit a byte either: the zoom is raised once more
-half-up : (σ : ℕ) → yielded (nextState σ) % 2 ≡ 0 → divideEach 2 (511 ∷ 0 ∷ 0 ∷ []) σ ≡ record { bytes = 256 ∷ 0 ∷ 0 ∷ []; state = nextState σ; draws = 1 }
+half-up : (σ : ℕ) → yielded (nextState σ) % 2 ≡ 0 → divideEach 2 (511 ∷ 0 ∷ 0 ∷ []) σ ≡ made (256 ∷ 0 ∷ 0 ∷ []) (nextState σ) 1
 unfolding divideEach
 half-up σ e =
     let up : roundedDiv 511 2 σ ≡ record { value = 256; state = nextState σ; draws = 1 } = sym (up-case 511 2 σ (drawOf σ) (λ z. omega arith) refl (omega arith)) in

@@ -9,7 +9,7 @@ use lib.ListN.{length, replicate, length-replicate}
 use lib.Seq.{length-take-le}
 use native.Mathlib.Omega.{arith}
 use borrow.Author.Tests.{le-leb, ne-eqb}
-use Rattle.laws.specs.Steps.{Step, still, leaving, later}
+use Rattle.laws.specs.Steps.{Step, still, leaving, later, made}
 use Rattle.laws.proofs.ChoiceLaws.{either}
 use Rattle.rounding.specs.declared.Divided.{Divided}
 use Rattle.rounding.specs.Draws.{stateAfter, roundedDiv}
@@ -56,7 +56,7 @@ module _ (t c slot : ℕ) (b : List ℕ) (σ : ℕ) (fit : Fit t c (length b)) (
   pub closed : Quiet t c b σ (closeOf t c slot b σ)
   unfolding closeOf
   closed =
-      either (Quiet t c b σ) (eqb (rounded .value) 0) (record { bytes = withShutter t 0 b; state = rounded .state; draws = rounded .draws })
+      either (Quiet t c b σ) (eqb (rounded .value) 0) (made (withShutter t 0 b) (rounded .state) (rounded .draws))
       (later (rounded .draws) (creditOf t c slot (withShutter t 0 b) (rounded .state)))
       (λ e. record {
         kept = shut-kept;

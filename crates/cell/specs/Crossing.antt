@@ -4,7 +4,7 @@ use mathlib.Core.Bool.{Bool, true, cond, _&&_}
 use mathlib.Core.List.{List, [], _∷_}
 use lib.Dec.{leb, eqb}
 use lib.ListN.{replicate}
-use Rattle.laws.specs.Steps.{Step, still, leaving, later}
+use Rattle.laws.specs.Steps.{Step, still, leaving, later, made}
 use Rattle.rounding.specs.declared.Divided.{Divided}
 use Rattle.rounding.specs.Draws.{roundedDiv}
 use Rattle.cell.specs.Cell.{pixelsOf, slotOf, pixelsIn, zoomOf, shutterOf, unitOf, withPixel, withPixels, withZoom, withShutter}
@@ -13,7 +13,7 @@ use Rattle.cell.specs.Insertion.{creditOf}
 -- what the rounded shutter does to a cell whose shutter is 0 by now: 1 credits the pixel, 0 leaves it
 abbrev pub closedWith : ℕ → ℕ → ℕ → List ℕ → Divided → Step
 closedWith t c slot b d =
-    cond (eqb (d .value) 0) (record { bytes = b; state = d .state; draws = d .draws }) (later (d .draws) (creditOf t c slot b (d .state)))
+    cond (eqb (d .value) 0) (made b (d .state) (d .draws)) (later (d .draws) (creditOf t c slot b (d .state)))
 
 -- CLOSE: s becomes 0, and rounded division of s by c ^ Z (which draws nothing for s = 0) gives 0, or 1 for the pixel
 unfoldable pub closeOf : ℕ → ℕ → ℕ → List ℕ → ℕ → Step

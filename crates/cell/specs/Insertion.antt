@@ -4,14 +4,14 @@ use mathlib.Core.Bool.{cond}
 use mathlib.Core.List.{List, [], _∷_}
 use lib.Dec.{ltb}
 use lib.ListN.{set}
-use Rattle.laws.specs.Steps.{Step, still, leaving}
+use Rattle.laws.specs.Steps.{Step, still, leaving, made}
 use Rattle.rounding.specs.declared.Divided.{Divided}
 use Rattle.rounding.specs.Draws.{roundedDiv}
 use Rattle.cell.specs.Cell.{slotOf, pixelsIn, pixelOf, zoomOf, shutterOf, unitOf, withPixel, withPixels, withZoom, withShutter, maxZoom}
 
 -- a quotient, and then what is done to the numbers behind it
 abbrev pub front : Divided → Step → Step
-front d s = record { bytes = d .value ∷ s .bytes; state = s .state; draws = d .draws + s .draws }
+front d s = made (d .value ∷ s .bytes) (s .state) (d .draws + s .draws)
 
 -- every number in order is divided by c with rounding, the random state passed on
 unfoldable pub divideEach : ℕ → List ℕ → ℕ → Step

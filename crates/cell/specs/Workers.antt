@@ -5,7 +5,7 @@ use mathlib.Core.Bool.{true, not, cond}
 use mathlib.Core.List.{List}
 use lib.Dec.{leb, eqb}
 use lib.ListN.{length}
-use Rattle.laws.specs.Steps.{Step}
+use Rattle.laws.specs.Steps.{Step, made}
 use Rattle.refusal.specs.declared.Verdict.{Verdict}
 use Rattle.refusal.specs.declared.Verdict.the-variants.{Accepted}
 use Rattle.refusal.specs.Refusals.{refuse}
@@ -35,7 +35,7 @@ pub record Judged (t c : ℕ) (b : List ℕ) (shutter unit : ℕ) : Type 0 where
 
 -- the bytes that a worker leaves, with what it returned beside them
 abbrev pub stepOf : List ℕ → Drawn → Step
-stepOf b r = record { bytes = b; state = r .state; draws = r .draws }
+stepOf b r = made b (r .state) (r .draws)
 
 -- c ^ z, and 0 where z is above max_zoom
 abbrev pub unitOrZero : ℕ → ℕ → ℕ

@@ -5,6 +5,7 @@ use mathlib.Core.List.{List, _++_}
 use lib.ListN.{length, take, drop, length-take}
 use native.Mathlib.Nat.{mod-eq-of-lt, mod-eq-sub-mod, div-eq-of-lt, div-eq-of-lt-le, div-lt-iff-lt-mul}
 use native.Mathlib.Omega.{arith}
+use Rattle.laws.specs.Steps.{made}
 use Rattle.cell_merging.specs.declared.merge.Carry.{Carry}
 use Rattle.cell_merging_sums.specs.declared.worker.Summed.{Summed}
 use Rattle.cell.specs.Cell.{pixelsOf, depthOf, slotOf, zoomOf, shutterOf, withPixels, withZoom, withShutter}
@@ -57,7 +58,7 @@ module _ (t c : ℕ) (b src : List ℕ) (target : ℕ) (et : target ≡ max (zoo
   pub merged-is : (n slot : ℕ) → slot ≡ slotOf t n → (σ : ℕ) (sums l : List ℕ) (r : Summed)
       → settledOf sums r ≡ sumsOf t c target slot (carry .units) b src σ
       → l ≡ withShutter t (carry .rest) (withZoom t (r .zoom) (withPixels t sums b))
-      → record { bytes = l; state = r .state; draws = r .draws } ≡ mergeOf t c n b src σ
+      → made l (r .state) (r .draws) ≡ mergeOf t c n b src σ
   unfolding mergeOf sumsOf
   merged-is n slot en σ sums l r e el =
       rw (el, ec .rest-is, et)

@@ -7,7 +7,7 @@ use lib.ListN.{length, take, getD}
 use native.Mathlib.Nat.{add-assoc, zero-add, add-zero}
 use native.Mathlib.Omega.{arith}
 use borrow.Author.Tests.{not-true, not-false}
-use Rattle.laws.specs.Steps.{Step}
+use Rattle.laws.specs.Steps.{Step, made}
 use Rattle.cell.specs.declared.Drawn.{Drawn}
 use Rattle.cell_merging_sums.specs.declared.worker.Summed.{Summed}
 use Rattle.cell.specs.Cell.{pixelsOf, zoomOf, maxZoom}
@@ -41,11 +41,11 @@ module _ (c z₀ : ℕ) (l₀ : List ℕ) (σ : ℕ) where
       omega (arith, settling-few l s n z w few, ap (λ (r : Step). r .draws) e, divide-draws c l τ, w .same)
 
   module _ (l : List ℕ) (s n z : ℕ) (w : Settling c z₀ l₀ σ l s n z) (fit : Bool) (ef : fit ≡ allAtMost 255 l) where
-    pub settling-fit : not fit ≡ false → record { zoom = z; sums = record { bytes = l; state = s; draws = n } } ≡ settleOf c z₀ l₀ σ
+    pub settling-fit : not fit ≡ false → record { zoom = z; sums = made l s n } ≡ settleOf c z₀ l₀ σ
     settling-fit g = sym (w .done ∙ rw (settle-fit c (maxZoom c - z) z l s (sym ef ∙ not-false fit g)) (simp add-zero))
 
     module _ (top : ℕ) (et : top ≡ maxZoom c) where
-      pub settling-cut : top ≤ z → (l' : List ℕ) → l' ≡ cutEach l → record { zoom = z; sums = record { bytes = l'; state = s; draws = n } } ≡ settleOf c z₀ l₀ σ
+      pub settling-cut : top ≤ z → (l' : List ℕ) → l' ≡ cutEach l → record { zoom = z; sums = made l' s n } ≡ settleOf c z₀ l₀ σ
       unfolding settleFrom
       settling-cut h l' e =
           let q : maxZoom c - z ≡ 0 = omega arith in
@@ -77,7 +77,7 @@ module _ (t c target p z z' : ℕ) (b src : List ℕ) (σ : ℕ) (ez : z ≡ zoo
   added-is l r e = rw (ez, ez', ep) at e
 
   pub added-flat : target - z ≡ 0 → target - z' ≡ 0 → (l : List ℕ) → l ≡ flatSums (take p b) (take p src)
-      → record { bytes = l; state = σ; draws = 0 } ≡ addedOf t c target b src σ
+      → made l σ 0 ≡ addedOf t c target b src σ
   added-flat d d' l e = rw (← ez, ← ez', ← ep, d, d', e) (sym (flat-is c (take p b) (take p src) σ))
 
 -- THE SUMS: what the pixels gave, the carry, and what settled
@@ -87,7 +87,7 @@ carry-fits l slot carry low h = omega (arith, most-at 510 l slot low)
 module _ (t c target slot carry : ℕ) (b src : List ℕ) (σ : ℕ) (l l' l'' : List ℕ) (r : Drawn) (r' : Summed)
     (ea : stepOf l r ≡ addedOf t c target b src σ)
     (ec : l' ≡ withCarry slot carry l) (es : settledOf l'' r' ≡ settleOf c target l' (r .state)) where
-  pub sums-are : record { zoom = r' .zoom; sums = record { bytes = l''; state = r' .state; draws = r .draws + r' .draws } }
+  pub sums-are : record { zoom = r' .zoom; sums = made l'' (r' .state) (r .draws + r' .draws) }
       ≡ sumsOf t c target slot carry b src σ
   unfolding sumsOf
   sums-are = rw (← ea, ← ec) (ap (settledLater (r .draws)) es)

@@ -9,7 +9,7 @@ use lib.Seq.{drop-cons, take-suc-set, drop-set-lt, take-all}
 use native.Mathlib.Nat.{add-assoc, zero-add, add-zero, div-le-of-le-mul}
 use native.Mathlib.Numerals.{add-one}
 use native.Mathlib.Omega.{arith}
-use Rattle.laws.specs.Steps.{Step, still}
+use Rattle.laws.specs.Steps.{Step, still, made}
 use Rattle.rounding.specs.declared.Divided.{Divided}
 use Rattle.rounding.specs.Draws.{roundedDiv}
 use Rattle.rounding.proofs.DivisionLaws.{value-le}
@@ -22,7 +22,7 @@ use Rattle.cell.proofs.SumsLaws.{scale-draws, scale-value, add-few, most-one-mo
 
 -- a step behind the numbers l, n draws after them
 abbrev behind : List ℕ → ℕ → Step → Step
-behind l n s = record { bytes = l ++ s .bytes; state = s .state; draws = n + s .draws }
+behind l n s = made (l ++ s .bytes) (s .state) (n + s .draws)
 
 -- SCALE DOWN: `left` levels are to come yet
 pub record Scaling (levels c v σ x s n left : ℕ) : Type 0 where
@@ -92,7 +92,7 @@ module _ (c down down' : ℕ) (xs ys : List ℕ) (σ : ℕ) where
   adding-begin zs h = record { done = simp zero-add; low = refl; same = h }
 
   module _ (zs : List ℕ) (s n i : ℕ) (w : Adding c down down' xs ys σ zs s n i) where
-    pub adding-end : length xs ≤ i → record { bytes = zs; state = s; draws = n } ≡ addEach c down down' xs ys σ
+    pub adding-end : length xs ≤ i → made zs s n ≡ addEach c down down' xs ys σ
     unfolding addEach
     adding-end h = sym (w .done ∙ rw (drop-of-length-le xs h, take-all i zs (omega (arith, w .same))) (simp (append-nil, add-zero)))
 
@@ -175,7 +175,7 @@ module _ (c : ℕ) (l₀ : List ℕ) (σ : ℕ) where
   halving-begin = record { done = simp zero-add; same = refl }
 
   module _ (l : List ℕ) (s n i : ℕ) (w : Halving c l₀ σ l s n i) where
-    pub halving-end : length l ≤ i → record { bytes = l; state = s; draws = n } ≡ divideEach c l₀ σ
+    pub halving-end : length l ≤ i → made l s n ≡ divideEach c l₀ σ
     unfolding divideEach
     halving-end h = sym (w .done ∙ rw (drop-of-length-le l h, take-all i l h) (simp (append-nil, add-zero)))
 

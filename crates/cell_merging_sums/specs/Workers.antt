@@ -2,7 +2,7 @@
 use Prim.Native.Nat.{ℕ, _+_, _-_}
 use mathlib.Core.List.{List, [], _∷_}
 use Rattle.cell_merging_sums.specs.declared.worker.Summed.{Summed}
-use Rattle.laws.specs.Steps.{Step}
+use Rattle.laws.specs.Steps.{Step, made}
 use Rattle.cell.specs.Cell.{pixelsIn, zoomOf}
 use Rattle.cell.specs.Merge.{addEach, Settled}
 
@@ -18,4 +18,4 @@ flatSums (x ∷ xs) (y ∷ ys) = (x + y) ∷ flatSums xs ys
 
 -- the sums that a worker leaves, with what it returned beside them
 abbrev pub settledOf : List ℕ → Summed → Settled
-settledOf sums r = record { zoom = r .zoom; sums = record { bytes = sums; state = r .state; draws = r .draws } }
+settledOf sums r = record { zoom = r .zoom; sums = made sums (r .state) (r .draws) }

@@ -8,7 +8,7 @@ use lib.Seq.{drop-drop, length-take-le}
 use native.Mathlib.Omega.{arith}
 use native.Mathlib.Nat.{add-zero, zero-add, add-suc, suc-add, add-comm, add-assoc, zero-mul, suc-mul, eq-or-lt-of-le, le-of-suc-le-suc, lt-suc-self, le-refl, sub-zero}
 use native.Mathlib.Numerals.{add-one}
-use Rattle.laws.specs.Steps.{Step, still, chain}
+use Rattle.laws.specs.Steps.{Step, still, chain, made}
 use Rattle.laws.specs.Parts.{part, splice}
 use Rattle.laws.specs.Passes.{eachOf}
 use Rattle.laws.proofs.PartLaws.{part-length, splice-length, splice-taken, splice-dropped, splice-part, splice-append, piece-room, piece-other}
@@ -89,7 +89,7 @@ module _ (f : ℕ → List ℕ → ℕ → Step) (size : ℕ) where
 
 -- WHERE A LOOP IS that steps from piece to piece in place: i pieces are done, and the next begins at a
 pub record Going (f : ℕ → List ℕ → ℕ → Step) (size m k : ℕ) (l₀ : List ℕ) (σ₀ : ℕ) (l : List ℕ) (σ drawn a i : ℕ) : Type 0 where
-  pub done : eachOf f size 0 k l₀ σ₀ ≡ chain (record { bytes = take a l; state = σ; draws = drawn }) (eachOf f size i (k - i) (drop a l) σ)
+  pub done : eachOf f size 0 k l₀ σ₀ ≡ chain (made (take a l) σ drawn) (eachOf f size i (k - i) (drop a l) σ)
   pub rest : drop a l ≡ drop a l₀
   pub start : a ≡ i * size
   pub most : i ≤ k
@@ -110,7 +110,7 @@ module _ (f : ℕ → List ℕ → ℕ → Step) (size m k : ℕ) (l₀ : List �
   }
 
   module _ (l : List ℕ) (σ drawn a i : ℕ) (w : Going f size m k l₀ σ₀ l σ drawn a i) where
-    pub going-end : k ≤ i → record { bytes = l; state = σ; draws = drawn } ≡ eachOf f size 0 k l₀ σ₀
+    pub going-end : k ≤ i → made l σ drawn ≡ eachOf f size 0 k l₀ σ₀
     going-end h =
         let e : k - i ≡ 0 = omega arith in
         sym (w .done ∙ rw (e, each-zero) (simp (take-append-drop, add-zero)))
@@ -138,11 +138,11 @@ module _ (f : ℕ → List ℕ → ℕ → Step) (size m k : ℕ) (l₀ : List �
       pub going-piece : take (a + d - a) (drop a l) ≡ part (i * size) size l₀
       going-piece = rw (w .rest) (going-beside l₀)
 
-      pub going-on : (ys : List ℕ) (s n : ℕ) → length ys ≡ length (take (a + d - a) (drop a l)) → record { bytes = ys; state = s; draws = n } ≡ f i (take (a + d - a) (drop a l)) σ → n ≤ m
+      pub going-on : (ys : List ℕ) (s n : ℕ) → length ys ≡ length (take (a + d - a) (drop a l)) → made ys s n ≡ f i (take (a + d - a) (drop a l)) σ → n ≤ m
           → Going f size m k l₀ σ₀ (take a l ++ (ys ++ drop (a + d - a) (drop a l))) s (drawn + n) (a + d) (i + 1)
       going-on ys s n long e few =
           let q : k - i ≡ suc (k - (i + 1)) = omega arith in
-          let here : record { bytes = ys; state = s; draws = n } ≡ f i (part a size l) σ = rw mid at e in
+          let here : made ys s n ≡ f i (part a size l) σ = rw mid at e in
           let full : length ys ≡ size = (rw mid at long) ∙ part-length a size l inside in
           rw (mid, whole)
           (record {

@@ -7,18 +7,22 @@ pub record Step : Type 0 where
   pub state : ℕ
   pub draws : ℕ
 
+-- a step by its parts: all others are made by it, so that what a step carries beside these stands in one place
+abbrev pub made : List ℕ → ℕ → ℕ → Step
+made b σ k = record { bytes = b; state = σ; draws = k }
+
 -- bytes for which nothing is drawn
 abbrev pub still : List ℕ → ℕ → Step
-still b σ = record { bytes = b; state = σ; draws = 0 }
+still b σ = made b σ 0
 
 -- the same draws, with other bytes
 abbrev pub leaving : Step → List ℕ → Step
-leaving s b = record { bytes = b; state = s .state; draws = s .draws }
+leaving s b = made b (s .state) (s .draws)
 
 -- a step before which so many draws were made
 abbrev pub later : ℕ → Step → Step
-later k s = record { bytes = s .bytes; state = s .state; draws = k + s .draws }
+later k s = made (s .bytes) (s .state) (k + s .draws)
 
 -- a step, and then one on the bytes that stand behind it
 abbrev pub chain : Step → Step → Step
-chain s r = record { bytes = s .bytes ++ r .bytes; state = r .state; draws = s .draws + r .draws }
+chain s r = made (s .bytes ++ r .bytes) (r .state) (s .draws + r .draws)

@@ -4,7 +4,7 @@ use mathlib.Core.Path.{_≡_}
 use mathlib.Core.Bool.{true}
 use mathlib.Core.List.{List}
 use lib.ListN.{length}
-use Rattle.laws.specs.Steps.{Step}
+use Rattle.laws.specs.Steps.{Step, made}
 use Rattle.laws.specs.Parts.{part}
 use Rattle.refusal.specs.declared.Verdict.the-variants.{Accepted, Unsound}
 use Rattle.cell.specs.Cell.{depthOf, unitOf, soundOf}
@@ -43,7 +43,7 @@ rowUnit k g key row = unitOf (k .params .t) (k .params .c) (cellOf k g (keyCell 
 
 -- the grid that a pass leaves, with what it returned beside it
 abbrev pub passOf : List ℕ → Passed → Step
-passOf g r = record { bytes = g; state = r .state; draws = r .draws }
+passOf g r = made g (r .state) (r .draws)
 
 -- so many cells that were judged, and room for them
 pub record SoundCells (t c count : ℕ) (g : List ℕ) : Type 0 where
