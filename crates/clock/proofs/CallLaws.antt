@@ -7,7 +7,7 @@ use native.Mathlib.Omega.{arith}
 use lib.IntN.{pos}
 use lib.Dec.{T, eqb}
 use lib.Ieee.{Float, binary64, ofBits, inFloat, isNan, sub, div}
-use borrow.Author.Tests.{lt-ltb, le-ltb, eq-eqb, ne-eqb, not-true, not-false}
+use borrow.Author.Tests.{lt-ltb, le-ltb, eq-eqb, ne-eqb}
 use Rattle.laws.specs.Figure.{figure}
 use Rattle.laws.proofs.FigureLaws.{castable, zero-is, one-is}
 use Rattle.laws.specs.Unit.{inUnit}
@@ -15,7 +15,7 @@ use Rattle.laws.proofs.UnitLaws.{zero-unit, unit-number}
 use Rattle.refusal.specs.declared.Verdict.{Verdict}
 use Rattle.refusal.specs.declared.Verdict.the-variants.{Accepted, Refused, Unsound}
 use Rattle.refusal.specs.Refusals.{isAccepted, refuse, outside, whenAccepted}
-use Rattle.refusal.proofs.VerdictLaws.{accepted-is, refused-leaves, refuse-then, not-refused, inside-range, range-inside}
+use Rattle.refusal.proofs.VerdictLaws.{refused-leaves, turned-back, let-pass, refuse-then, not-refused, inside-range, range-inside}
 use Rattle.clock.specs.declared.SubWindowClock.{SubWindowClock}
 use Rattle.clock.specs.declared.SubWindowClock.the-variants.{CountBased, TimeBased}
 use Rattle.clock.specs.declared.FractionAnswer.{FractionAnswer}
@@ -107,7 +107,8 @@ module _ (k : SubWindowClock) (good : GoodLength k) (length : ℕ) (is : length 
       let below : since % length < length = mod-lt since (omega (arith, good .some)) in
       castable (since % length) (omega (arith, good .short))
 
-  pub fraction-worked : (since : ℕ) → since ≡ passedOf k → sub binary64 (ofBits binary64 0x3ff0_0000_0000_0000) (div binary64 (figure (since % length)) (figure length)) ≡ fractionOf k
+  pub fraction-worked : (since : ℕ) → since ≡ passedOf k
+      → sub binary64 (ofBits binary64 0x3ff0_0000_0000_0000) (div binary64 (figure (since % length)) (figure length)) ≡ fractionOf k
   unfolding fractionOf
   fraction-worked since e = rw (one-is, e, is) refl
 
@@ -139,54 +140,51 @@ good-length k e =
     record { some = inside .0; short = inside .1 }
 
 module _ (k : SubWindowClock) (v : Verdict) (judged : v ≡ lengthVerdict k) (ok : Bool) (asked : ok ≡ isAccepted v) where
-  turned : not ok ≡ true → isAccepted v ≡ false
-  turned h = sym asked ∙ not-true ok h
-
-  passed : not ok ≡ false → v ≡ Accepted
-  passed h = accepted-is v (sym asked ∙ not-false ok h)
-
   pub judged-good : not ok ≡ false → GoodLength k
-  judged-good h = good-length k (sym judged ∙ passed h)
+  judged-good h = good-length k (sym judged ∙ let-pass v ok asked h)
 
   -- ---- the calls that read
   pub n-refused : not ok ≡ true → record { verdict = v; n = 0 } ≡ nCall k
   unfolding nCall
-  n-refused h = rw (← judged, refused-leaves v (nOf k) 0 (turned h)) refl
+  n-refused h = rw (← judged, refused-leaves v (nOf k) 0 (turned-back v ok asked h)) refl
 
   pub n-done : not ok ≡ false → (n : ℕ) → n ≡ nOf k → record { verdict = v; n = n } ≡ nCall k
   unfolding nCall
-  n-done h n e = rw (← judged, passed h, e) refl
+  n-done h n e = rw (← judged, let-pass v ok asked h, e) refl
 
   pub fraction-refused : not ok ≡ true → record { verdict = v; fraction = ofBits binary64 0 } ≡ fractionCall k
   unfolding fractionCall
-  fraction-refused h = rw (← judged, refused-leaves v (fractionOf k) (figure 0) (turned h), zero-is) refl
+  fraction-refused h = rw (← judged, refused-leaves v (fractionOf k) (figure 0) (turned-back v ok asked h), zero-is) refl
 
   pub fraction-done : not ok ≡ false → (x : Float) → x ≡ fractionOf k → record { verdict = v; fraction = x } ≡ fractionCall k
   unfolding fractionCall
-  fraction-done h x e = rw (← judged, passed h, e) refl
+  fraction-done h x e = rw (← judged, let-pass v ok asked h, e) refl
 
   -- ---- the calls that move: the kind is judged after the length
   module _ (after : SubWindowClock) (wrong : Bool) where
+    abbrev moved : MovedAnswer
+    moved = movedCall (refuseLength k (refuse 8 wrong Accepted)) k after
+
     then-kind : refuseLength k (refuse 8 wrong Accepted) ≡ whenAccepted v (refuse 8 wrong Accepted) v
     then-kind = rw judged (refuse-then 3 (outside 1 (2 ^ 53) (lengthOf k)) (refuse 8 wrong Accepted))
 
-    pub moved-refused : not ok ≡ true → (r : MovedAnswer) → r ≡ record { verdict = v; clock = k; crossed = 0 } → r ≡ movedCall (refuseLength k (refuse 8 wrong Accepted)) k after
+    pub moved-refused : not ok ≡ true → (r : MovedAnswer) → r ≡ record { verdict = v; clock = k; crossed = 0 } → r ≡ moved
     moved-refused h r e =
-        let out = turned h in
+        let out = turned-back v ok asked h in
         rw (then-kind, refused-leaves v (refuse 8 wrong Accepted) v out, refused-leaves v after k out, refused-leaves v (crossedOf k after) 0 out) e
 
     module _ (h : not ok ≡ false) where
       on-kind : refuseLength k (refuse 8 wrong Accepted) ≡ refuse 8 wrong Accepted
-      on-kind = then-kind ∙ rw (passed h) refl
+      on-kind = then-kind ∙ rw (let-pass v ok asked h) refl
 
-      pub kind-refused : wrong ≡ true → (r : MovedAnswer) → r ≡ record { verdict = Refused 8; clock = k; crossed = 0 } → r ≡ movedCall (refuseLength k (refuse 8 wrong Accepted)) k after
+      pub kind-refused : wrong ≡ true → (r : MovedAnswer) → r ≡ record { verdict = Refused 8; clock = k; crossed = 0 } → r ≡ moved
       kind-refused w r e = rw (on-kind, w) e
 
       pub moved-good : lengthOf after ≡ lengthOf k → GoodLength after
       moved-good e = let good = judged-good h in record { some = omega (arith, good .some); short = omega (arith, good .short) }
 
-      pub moved-done : wrong ≡ false → (old new : ℕ) → old ≡ nOf k → new ≡ nOf after → record { verdict = v; clock = after; crossed = new - old } ≡ movedCall (refuseLength k (refuse 8 wrong Accepted)) k after
-      moved-done w old new o n = rw (on-kind, w, passed h, o, n) refl
+      pub moved-done : wrong ≡ false → (old new : ℕ) → old ≡ nOf k → new ≡ nOf after → record { verdict = v; clock = after; crossed = new - old } ≡ moved
+      moved-done w old new o n = rw (on-kind, w, let-pass v ok asked h, o, n) refl
 
 -- the fraction that a call gives is one of 0 to 1 whatever clock is handed in, and so no NaN
 pub fraction-call-unit : (k : SubWindowClock) → inUnit (fractionCall k .fraction) ≡ true

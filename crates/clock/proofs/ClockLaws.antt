@@ -2,7 +2,8 @@
 use Prim.Native.Nat.{ℕ, zero, suc, _+_, _-_, _*_, _/_, _%_, _^_, _≤_, _<_, max}
 use mathlib.Core.Path.{_≡_, refl, sym, ap, _∙_}
 use mathlib.Core.Bool.{Bool, true, false}
-use native.Mathlib.Nat.{div-zero, zero-div, zero-mod, mod-lt, le-div-iff-mul-le, div-mul-le-self, lt-div-mul-add, div-eq-of-eq-mul-left, div-eq-of-lt-le, add-div-right, add-mul, zero-lt-suc, le-trans, le-of-lt, max-eq-left, max-eq-right}
+use native.Mathlib.Nat.{div-zero, zero-div, zero-mod, mod-lt, le-div-iff-mul-le, div-mul-le-self, lt-div-mul-add}
+use native.Mathlib.Nat.{div-eq-of-eq-mul-left, div-eq-of-lt-le, add-div-right, add-mul, zero-lt-suc, le-trans, le-of-lt, max-eq-left, max-eq-right}
 use native.Mathlib.Omega.{arith}
 use lib.Ieee.{binary64, div}
 use lib.Ieee.Scale.{round-same}
@@ -143,7 +144,9 @@ unfolding fractionOf
 fraction-whole k good e =
     let l = lengthOf k in
     let none : div binary64 (figure 0) (figure l) ≡ figure 0 =
-    figure-div 0 l (omega arith) (good .short) (good .some) ∙ round-same binary64 false 0 l 0 1 (good .some) (zero-lt-suc 0) (omega arith) ∙ sym (figure-is 0) in
+    figure-div 0 l (omega arith) (good .short) (good .some)
+    ∙ round-same binary64 false 0 l 0 1 (good .some) (zero-lt-suc 0) (omega arith) ∙ sym (figure-is 0)
+    in
     rw (e, none) (figure-sub 1 0 (omega arith) (omega arith) (omega arith))
 
 -- ---- before the epoch

@@ -12,6 +12,7 @@ use native.Mathlib.Decide.{decLt}
 use Rattle.laws.specs.Bytes.{numberOf, bytesOf}
 use Rattle.laws.specs.Parts.{part, splice}
 use Rattle.laws.proofs.PartLaws.{splice-part, sets-splice}
+use Rattle.laws.proofs.SmallLaws.{Small}
 
 -- WRITTEN
 pub bytes-length : (w n : ℕ) → length (bytesOf w n) ≡ w
@@ -19,7 +20,7 @@ unfolding bytesOf
 bytes-length zero n = refl
 bytes-length (suc w) n = ap suc (bytes-length w (n / 256))
 
-pub bytes-small : (w n i : ℕ) → getD (bytesOf w n) i 0 < 256
+pub bytes-small : (w n : ℕ) → Small (bytesOf w n)
 unfolding bytesOf
 bytes-small zero n i = omega arith
 bytes-small (suc w) n zero = mod-lt n (omega arith)
@@ -28,19 +29,21 @@ bytes-small (suc w) n (suc i) = bytes-small w (n / 256) i
 pub number-bytes : (w n : ℕ) → numberOf (bytesOf w n) ≡ n % 256 ^ w
 unfolding numberOf bytesOf
 number-bytes zero n = sym (mod-one n)
-number-bytes (suc w) n = rw (number-bytes w (n / 256), pow-suc 256 w, mod-mul n {m = 256 ^ w} {c = 256} (one-le-pow w 256 (omega arith)) (omega arith)) (omega arith)
+number-bytes (suc w) n =
+    let positive : 1 ≤ 256 ^ w = one-le-pow w 256 (omega arith) in
+    rw (number-bytes w (n / 256), pow-suc 256 w, mod-mul n {m = 256 ^ w} {c = 256} positive (omega arith)) (omega arith)
 
 pub number-bytes-small : (w n : ℕ) → n < 256 ^ w → numberOf (bytesOf w n) ≡ n
 number-bytes-small w n h = number-bytes w n ∙ mod-eq-of-lt h
 
 -- READ
-pub number-below : (w : ℕ) (l : List ℕ) → length l ≤ w → ((i : ℕ) → getD l i 0 < 256) → numberOf l < 256 ^ w
+pub number-below : (w : ℕ) (l : List ℕ) → length l ≤ w → Small l → numberOf l < 256 ^ w
 unfolding numberOf
 number-below w [] h small = one-le-pow w 256 (omega arith)
 number-below zero (x ∷ xs) h small = absurd (omega arith)
 number-below (suc w) (x ∷ xs) h small = rw (pow-suc 256 w) (omega (arith, small 0, number-below w xs (omega arith) (λ i. small (suc i))))
 
-pub bytes-number : (w : ℕ) (l : List ℕ) → length l ≡ w → ((i : ℕ) → getD l i 0 < 256) → bytesOf w (numberOf l) ≡ l
+pub bytes-number : (w : ℕ) (l : List ℕ) → length l ≡ w → Small l → bytesOf w (numberOf l) ≡ l
 unfolding numberOf bytesOf
 bytes-number zero [] h small = refl
 bytes-number zero (x ∷ xs) h small = absurd (omega arith)
@@ -49,6 +52,16 @@ bytes-number (suc w) (x ∷ xs) h small =
     let low : (x + 256 * numberOf xs) % 256 ≡ x = omega (arith, small 0) in
     let high : (x + 256 * numberOf xs) / 256 ≡ numberOf xs = omega (arith, small 0) in
     rw (low, high, bytes-number w xs (omega arith) (λ i. small (suc i)))
+
+-- bytes that make up 0 are all 0
+pub no-bytes : (w : ℕ) (l : List ℕ) → length l ≡ w → numberOf l ≡ 0 → bytesOf w 0 ≡ l
+unfolding numberOf bytesOf
+no-bytes zero [] h e = refl
+no-bytes zero (x ∷ xs) h e = absurd (omega arith)
+no-bytes (suc w) [] h e = absurd (omega arith)
+no-bytes (suc w) (x ∷ xs) h e =
+    let none : x ≡ 0 = omega arith in
+    rw none (ap (λ (l : List ℕ). 0 ∷ l) (no-bytes w xs (omega arith) (omega arith)))
 
 -- IN PLACE
 pub number-splice : (w a n : ℕ) (b : List ℕ) → a + w ≤ length b → n < 256 ^ w → numberOf (part a w (splice a w (bytesOf w n) b)) ≡ n

@@ -1,5 +1,5 @@
--- Whole numbers up to 2 ^ 53 as f64: each is held exactly, so a sum, a difference or a product is the figure of the whole-number result, a quotient is rounded once,
--- and comparisons are those of the whole numbers. A result of at most 2 ^ 53 is again the whole number itself.
+-- Whole numbers up to 2 ^ 53 as f64: each is held exactly, so a sum, a difference or a product is the figure of the whole-number result,
+-- a quotient is rounded once, and comparisons are those of the whole numbers. A result of at most 2 ^ 53 is again the whole number itself.
 use mathlib.Core.Path.{_≡_, refl, sym, _∙_, subst}
 use mathlib.Core.Bool.{false}
 use Prim.Native.Nat.{ℕ, _+_, _-_, _*_, _^_, _≤_, _<_}
@@ -42,7 +42,9 @@ module _ (a b : ℕ) (h : a ≤ 2 ^ 53) (k : b ≤ 2 ^ 53) where
   figure-add = value-add (figure a) (figure b) a 1 b 1 one-pos one-pos (figure-value a h) (figure-value b k) ∙ simp mul-one (sym (figure-is (a + b)))
 
   pub figure-sub : b ≤ a → sub binary64 (figure a) (figure b) ≡ figure (a - b)
-  figure-sub l = value-sub (figure a) (figure b) a 1 b 1 one-pos one-pos (figure-value a h) (figure-value b k) (omega arith) ∙ simp mul-one (sym (figure-is (a - b)))
+  figure-sub l =
+      value-sub (figure a) (figure b) a 1 b 1 one-pos one-pos (figure-value a h) (figure-value b k) (omega arith)
+      ∙ simp mul-one (sym (figure-is (a - b)))
 
   pub figure-mul : mul binary64 (figure a) (figure b) ≡ figure (a * b)
   figure-mul = value-mul (figure a) (figure b) a 1 b 1 one-pos one-pos (figure-value a h) (figure-value b k) ∙ sym (figure-is (a * b))

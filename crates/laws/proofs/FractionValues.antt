@@ -3,7 +3,8 @@
 use mathlib.Core.Path.{_≡_, refl, sym, ap, _∙_, subst}
 use mathlib.Core.Bool.{Bool, true, false, not, _&&_, _||_, cond, true≢false}
 use Prim.Native.Nat.{ℕ, zero, suc, _+_, _-_, _*_, _^_, _≤_, _<_}
-use native.Mathlib.Nat.{le-of-lt, le-of-eq, le-antisymm, lt-of-not-le, not-le-of-lt, lt-irrefl, mul-comm, mul-assoc, mul-left-comm, add-mul, mul-sub, mul-pos, mul-mul-mul-comm}
+use native.Mathlib.Nat.{le-of-lt, le-of-eq, le-antisymm, lt-of-not-le, not-le-of-lt, lt-irrefl}
+use native.Mathlib.Nat.{mul-comm, mul-assoc, mul-left-comm, add-mul, mul-sub, mul-pos, mul-mul-mul-comm}
 use lib.IntN.{ℤ}
 use lib.Dec.{T, leb, ltb, eqb, ltb→lt, lt→ltb, leb→le, le→leb, eqb→eq, eqb-refl, nltb→le}
 use lib.Ieee.{Float, nan, inf, fin, Format, binary64, prec, emax, low, up, down, odd, units, round, add, sub, sum, mul, div, lt, le}
@@ -20,38 +21,48 @@ of-value P (inf s) a c h k = absurd h
 of-value P (fin true m e) a c h k = absurd (true≢false (h .0))
 of-value P (fin false m e) a c h k = k m e (h .1)
 
+-- m · 2 ^ e in units of the denominator that it has together with a number of exponent g
+abbrev over : ℕ → ℤ → ℤ → ℕ
+over m e g = m * up e * down g
+
+abbrev rounded : ℕ → ℕ → Float
+rounded a c = round binary64 false a c
+
 -- ---- the operations, and the comparisons, at two numbers with no minus sign
 module _ (m : ℕ) (e : ℤ) (n : ℕ) (g : ℤ) where
-  add-fin : add binary64 (fin false m e) (fin false n g) ≡ round binary64 false (m * up e * down g + n * up g * down e) (down e * down g)
+  add-fin : add binary64 (fin false m e) (fin false n g) ≡ rounded (over m e g + over n g e) (down e * down g)
   unfolding add sum
   add-fin = refl
 
-  mul-fin : mul binary64 (fin false m e) (fin false n g) ≡ round binary64 false (m * up e * (n * up g)) (down e * down g)
+  mul-fin : mul binary64 (fin false m e) (fin false n g) ≡ rounded (m * up e * (n * up g)) (down e * down g)
   unfolding mul
   mul-fin = refl
 
-  div-fin : 0 < n → div binary64 (fin false m e) (fin false n g) ≡ round binary64 false (m * up e * down g) (n * up g * down e)
+  div-fin : 0 < n → div binary64 (fin false m e) (fin false n g) ≡ rounded (over m e g) (over n g e)
   unfolding div
   div-fin h = go (eqb n 0) (eqb→eq n 0)
     where
-      go : (b : Bool) → (T b → n ≡ 0) → cond b (cond (eqb m 0) nan (inf false)) (round binary64 false (m * up e * down g) (n * up g * down e)) ≡ round binary64 false (m * up e * down g) (n * up g * down e)
+      go : (b : Bool) → (T b → n ≡ 0)
+          → cond b (cond (eqb m 0) nan (inf false)) (rounded (over m e g) (over n g e)) ≡ rounded (over m e g) (over n g e)
       go true k = absurd (lt-irrefl 0 (subst (λ (z : ℕ). 0 < z) (k tt) h))
       go false k = refl
 
-  sub-fin : n * up g * down e ≤ m * up e * down g → sub binary64 (fin false m e) (fin false n g) ≡ round binary64 false (m * up e * down g - n * up g * down e) (down e * down g)
+  sub-fin : over n g e ≤ over m e g
+      → sub binary64 (fin false m e) (fin false n g) ≡ rounded (over m e g - over n g e) (down e * down g)
   unfolding sub
-  sub-fin h = go (ltb (m * up e * down g) (n * up g * down e)) (ltb→lt (m * up e * down g) (n * up g * down e))
+  sub-fin h = go (ltb (over m e g) (over n g e)) (ltb→lt (over m e g) (over n g e))
     where
-      go : (b : Bool) → (T b → m * up e * down g < n * up g * down e)
-          → cond b (round binary64 true (n * up g * down e - m * up e * down g) (down e * down g)) (round binary64 false (m * up e * down g - n * up g * down e) (down e * down g)) ≡ round binary64 false (m * up e * down g - n * up g * down e) (down e * down g)
+      go : (b : Bool) → (T b → over m e g < over n g e)
+          → cond b (round binary64 true (over n g e - over m e g) (down e * down g)) (rounded (over m e g - over n g e) (down e * down g))
+          ≡ rounded (over m e g - over n g e) (down e * down g)
       go true k = absurd (not-le-of-lt (k tt) h)
       go false k = refl
 
-  lt-fin : lt (fin false m e) (fin false n g) ≡ ltb (m * up e * down g) (n * up g * down e)
+  lt-fin : lt (fin false m e) (fin false n g) ≡ ltb (over m e g) (over n g e)
   unfolding lt
   lt-fin = refl
 
-  le-fin : le (fin false m e) (fin false n g) ≡ (ltb (m * up e * down g) (n * up g * down e) || (eqb (m * up e * down g) (n * up g * down e) && true))
+  le-fin : le (fin false m e) (fin false n g) ≡ (ltb (over m e g) (over n g e) || (eqb (over m e g) (over n g e) && true))
   unfolding le
   le-fin = refl
 
@@ -94,61 +105,67 @@ quotient a c b d x p y q s t =
 
 -- ---- the operations, and the comparisons, at a / c and b / d
 module _ (x y : Float) (a c b d : ℕ) (C : 0 < c) (D : 0 < d) (h : HasValue x false a c) (k : HasValue y false b d) where
-  of-values : (P : Float → Float → Type 0) → ((m : ℕ) (e : ℤ) (n : ℕ) (g : ℤ) → m * up e * c ≡ a * down e → n * up g * d ≡ b * down g → P (fin false m e) (fin false n g)) → P x y
+  of-values : (P : Float → Float → Type 0)
+      → ((m : ℕ) (e : ℤ) (n : ℕ) (g : ℤ) → m * up e * c ≡ a * down e → n * up g * d ≡ b * down g → P (fin false m e) (fin false n g))
+      → P x y
   of-values P f = of-value (λ (z : Float). P z y) x a c h (λ m e p. of-value (P (fin false m e)) y b d k (λ n g q. f m e n g p q))
 
-  pub value-add : add binary64 x y ≡ round binary64 false (a * d + b * c) (c * d)
+  pub value-add : add binary64 x y ≡ rounded (a * d + b * c) (c * d)
   value-add =
-      of-values (λ (x y : Float). add binary64 x y ≡ round binary64 false (a * d + b * c) (c * d)) (λ m e n g p q.
+      of-values (λ (x y : Float). add binary64 x y ≡ rounded (a * d + b * c) (c * d)) (λ m e n g p q.
       add-fin m e n g
-      ∙ round-same binary64 false (m * up e * down g + n * up g * down e) (down e * down g) (a * d + b * c) (c * d) (mul-pos (down-pos e) (down-pos g)) (mul-pos C D)
-      (add-mul (m * up e * down g) (n * up g * down e) (c * d)
-      ∙ ap (λ (z : ℕ). z + n * up g * down e * (c * d)) (cross (m * up e) (down e) a c (down g) d p)
+      ∙ round-same binary64 false (over m e g + over n g e) (down e * down g) (a * d + b * c) (c * d) (mul-pos (down-pos e) (down-pos g)) (mul-pos C D)
+      (add-mul (over m e g) (over n g e) (c * d)
+      ∙ ap (λ (z : ℕ). z + over n g e * (c * d)) (cross (m * up e) (down e) a c (down g) d p)
       ∙ ap (λ (z : ℕ). a * d * (down e * down g) + z) (cross' (n * up g) (down g) b d (down e) c q)
       ∙ sym (add-mul (a * d) (b * c) (down e * down g))))
 
   -- where that is not below zero
-  pub value-sub : b * c ≤ a * d → sub binary64 x y ≡ round binary64 false (a * d - b * c) (c * d)
+  pub value-sub : b * c ≤ a * d → sub binary64 x y ≡ rounded (a * d - b * c) (c * d)
   value-sub l =
-      of-values (λ (x y : Float). sub binary64 x y ≡ round binary64 false (a * d - b * c) (c * d)) (λ m e n g p q.
+      of-values (λ (x y : Float). sub binary64 x y ≡ rounded (a * d - b * c) (c * d)) (λ m e n g p q.
       sub-fin m e n g (transfer (n * up g) (m * up e) (down g) (down e) b a d c D C q p l)
-      ∙ round-same binary64 false (m * up e * down g - n * up g * down e) (down e * down g) (a * d - b * c) (c * d) (mul-pos (down-pos e) (down-pos g)) (mul-pos C D)
-      (sub-mul (m * up e * down g) (n * up g * down e) (c * d)
-      ∙ ap (λ (z : ℕ). z - n * up g * down e * (c * d)) (cross (m * up e) (down e) a c (down g) d p)
+      ∙ round-same binary64 false (over m e g - over n g e) (down e * down g) (a * d - b * c) (c * d) (mul-pos (down-pos e) (down-pos g)) (mul-pos C D)
+      (sub-mul (over m e g) (over n g e) (c * d)
+      ∙ ap (λ (z : ℕ). z - over n g e * (c * d)) (cross (m * up e) (down e) a c (down g) d p)
       ∙ ap (λ (z : ℕ). a * d * (down e * down g) - z) (cross' (n * up g) (down g) b d (down e) c q)
       ∙ sym (sub-mul (a * d) (b * c) (down e * down g))))
 
-  pub value-mul : mul binary64 x y ≡ round binary64 false (a * b) (c * d)
+  pub value-mul : mul binary64 x y ≡ rounded (a * b) (c * d)
   value-mul =
-      of-values (λ (x y : Float). mul binary64 x y ≡ round binary64 false (a * b) (c * d)) (λ m e n g p q.
+      of-values (λ (x y : Float). mul binary64 x y ≡ rounded (a * b) (c * d)) (λ m e n g p q.
       mul-fin m e n g
       ∙ round-same binary64 false (m * up e * (n * up g)) (down e * down g) (a * b) (c * d) (mul-pos (down-pos e) (down-pos g)) (mul-pos C D)
-      (mul-mul-mul-comm (m * up e) (n * up g) c d ∙ ap (λ (z : ℕ). z * (n * up g * d)) p ∙ ap (λ (z : ℕ). a * down e * z) q ∙ mul-mul-mul-comm a (down e) b (down g)))
+      (mul-mul-mul-comm (m * up e) (n * up g) c d ∙ ap (λ (z : ℕ). z * (n * up g * d)) p ∙ ap (λ (z : ℕ). a * down e * z) q
+      ∙ mul-mul-mul-comm a (down e) b (down g)))
 
-  pub value-div : 0 < b → div binary64 x y ≡ round binary64 false (a * d) (c * b)
+  pub value-div : 0 < b → div binary64 x y ≡ rounded (a * d) (c * b)
   value-div B =
-      of-values (λ (x y : Float). div binary64 x y ≡ round binary64 false (a * d) (c * b)) (λ m e n g p q.
+      of-values (λ (x y : Float). div binary64 x y ≡ rounded (a * d) (c * b)) (λ m e n g p q.
       let U : 0 < n * up g = first-pos (n * up g) d (subst (λ (z : ℕ). 0 < z) (sym q) (mul-pos B (down-pos g))) in
       div-fin m e n g (first-pos n (up g) U)
-      ∙ round-same binary64 false (m * up e * down g) (n * up g * down e) (a * d) (c * b) (mul-pos U (down-pos e)) (mul-pos C B)
+      ∙ round-same binary64 false (over m e g) (over n g e) (a * d) (c * b) (mul-pos U (down-pos e)) (mul-pos C B)
       (quotient a c b d (m * up e) (down e) (n * up g) (down g) p q))
 
   pub value-le : le x y ≡ leb (a * d) (b * c)
   value-le =
       of-values (λ (x y : Float). le x y ≡ leb (a * d) (b * c)) (λ m e n g p q.
       le-fin m e n g
-      ∙ below-or-same (m * up e * down g) (n * up g * down e)
+      ∙ below-or-same (over m e g) (over n g e)
       ∙ same-test _ _
-      (λ t. le→leb (a * d) (b * c) (transfer a b c d (m * up e) (n * up g) (down e) (down g) (down-pos e) (down-pos g) (sym p) (sym q) (leb→le (m * up e * down g) (n * up g * down e) t)))
-      (λ t. le→leb (m * up e * down g) (n * up g * down e) (transfer (m * up e) (n * up g) (down e) (down g) a b c d C D p q (leb→le (a * d) (b * c) t))))
+      (λ t. le→leb (a * d) (b * c)
+      (transfer a b c d (m * up e) (n * up g) (down e) (down g) (down-pos e) (down-pos g) (sym p) (sym q) (leb→le (over m e g) (over n g e) t)))
+      (λ t. le→leb (over m e g) (over n g e) (transfer (m * up e) (n * up g) (down e) (down g) a b c d C D p q (leb→le (a * d) (b * c) t))))
 
   pub value-lt : lt x y ≡ ltb (a * d) (b * c)
   value-lt =
       of-values (λ (x y : Float). lt x y ≡ ltb (a * d) (b * c)) (λ m e n g p q.
       lt-fin m e n g
       ∙ same-test _ _
-      (λ t. lt→ltb (a * d) (b * c) (lt-of-not-le (λ l. not-le-of-lt (ltb→lt (m * up e * down g) (n * up g * down e) t) (transfer (n * up g) (m * up e) (down g) (down e) b a d c D C q p l))))
-      (λ t. lt→ltb (m * up e * down g) (n * up g * down e) (lt-of-not-le (λ l. not-le-of-lt (ltb→lt (a * d) (b * c) t) (transfer b a d c (n * up g) (m * up e) (down g) (down e) (down-pos g) (down-pos e) (sym q) (sym p) l)))))
+      (λ t. lt→ltb (a * d) (b * c) (lt-of-not-le (λ l. not-le-of-lt (ltb→lt (over m e g) (over n g e) t)
+      (transfer (n * up g) (m * up e) (down g) (down e) b a d c D C q p l))))
+      (λ t. lt→ltb (over m e g) (over n g e) (lt-of-not-le (λ l. not-le-of-lt (ltb→lt (a * d) (b * c) t)
+      (transfer b a d c (n * up g) (m * up e) (down g) (down e) (down-pos g) (down-pos e) (sym q) (sym p) l)))))
 
 -- ---- a rounded fraction
 -- not a NaN, and with no minus sign
@@ -181,7 +198,9 @@ plain-number (inf false) n g p t = absurd t
 plain-number (fin s m e) n g p t = tt
 
 -- below a number, it is a number: so many of the format's smallest values
-pub round-number : (a c b d : ℕ) (y : Float) → HasValue y false b d → T (le (round binary64 false a c) y) → HasValue (round binary64 false a c) false (grid binary64 a c) (2 ^ low binary64)
+pub round-number : (a c b d : ℕ) (y : Float) → HasValue y false b d → T (le (rounded a c) y)
+    → HasValue (rounded a c) false (grid binary64 a c) (2 ^ low binary64)
 round-number a c b d y k l =
     round-val binary64 a c (round-under binary64 a c
-    (of-value (λ (y : Float). T (le (round binary64 false a c) y) → T (finite (round binary64 false a c))) y b d k (λ n g q t. plain-number (round binary64 false a c) n g (round-plain binary64 a c) t) l))
+    (of-value (λ (y : Float). T (le (rounded a c) y) → T (finite (rounded a c))) y b d k
+    (λ n g q t. plain-number (rounded a c) n g (round-plain binary64 a c) t) l))

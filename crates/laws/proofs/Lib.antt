@@ -1,6 +1,7 @@
 pub mod ChoiceLaws
 pub mod PowerLaws
 pub mod PartLaws
+pub mod SmallLaws
 pub mod ByteLaws
 pub mod PassLaws
 pub mod SumLaws

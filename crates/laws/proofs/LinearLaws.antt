@@ -1,4 +1,5 @@
--- The Linear figure, under + fraction × oldest, rounds once at the product and once at the sum, and lies from the Under to the Over figure: rounding keeps the order of fractions.
+-- The Linear figure, under + fraction × oldest, rounds once at the product and once at the sum, and lies from the Under to the Over figure:
+-- rounding keeps the order of fractions.
 use mathlib.Core.Path.{_≡_, sym, ap, _∙_, subst}
 use mathlib.Core.Bool.{Bool, true, false, cond}
 use mathlib.Core.Logic.{⊎-elim}
@@ -6,7 +7,7 @@ use Prim.Native.Nat.{ℕ, _+_, _-_, _*_, _^_, _≤_, _<_}
 use native.Mathlib.Nat.{mul-one, one-mul, zero-mul, add-mul, mul-comm, mul-pos, mul-le-mul-right, sub-zero, not-suc-le-zero}
 use native.Mathlib.Omega.{arith}
 use lib.IntN.{ℤ, pos}
-use lib.Dec.{T, ltb, leb→le, ltb→lt}
+use lib.Dec.{T, leb, ltb, leb→le, ltb→lt}
 use lib.Pow.{pow-pos}
 use lib.Ieee.{Float, fin, binary64, low, up, down, round, add, sum, mul, le}
 use lib.Ieee.Fits.{down-pos}
@@ -48,7 +49,8 @@ module _ (u o : ℕ) (hu : u ≤ 2 ^ 53) (ho : o ≤ 2 ^ 53) where
       let is : mul binary64 x (figure o) ≡ P = value-mul x (figure o) a c o 1 C one-pos v (figure-value o ho) ∙ simp mul-one in
       let l : T (le P (figure o)) = rw (figure-is o) (round-mono binary64 (a * o) c o 1 C one-pos (omega (arith, mul-le-mul-right o h, mul-comm o c))) in
       let w : HasValue P false g k = round-number (a * o) c o 1 (figure o) (figure-value o ho) l in
-      let s : g ≤ o * k = rw (mul-one g) at (leb→le (g * 1) (o * k) (subst T (value-le P (figure o) g k o 1 (pow-pos (low binary64)) one-pos w (figure-value o ho)) l)) in
+      let t : T (leb (g * 1) (o * k)) = subst T (value-le P (figure o) g k o 1 (pow-pos (low binary64)) one-pos w (figure-value o ho)) l in
+      let s : g ≤ o * k = rw (mul-one g) at (leb→le (g * 1) (o * k) t) in
       record { g = g; product = is; value = rw is w; total = rw is (sum-once P g k (pow-pos (low binary64)) w); small = s }
 
   between-rounds : (g k : ℕ) → 0 < k → g ≤ o * k → Between (figure u) (figure (u + o)) (round binary64 false (u * k + g) k)
@@ -72,17 +74,24 @@ module _ (u o : ℕ) (hu : u ≤ 2 ^ 53) (ho : o ≤ 2 ^ 53) where
   add-minus-zero m e v = go (ltb (m * up e * 1) (0 * down e)) (ltb→lt (m * up e * 1) (0 * down e))
     where
       go : (b : Bool) → (T b → m * up e * 1 < 0 * down e)
-          → cond b (round binary64 true (0 * down e - m * up e * 1) (down e * 1)) (round binary64 false (m * up e * 1 - 0 * down e) (down e * 1)) ≡ round binary64 false u 1
+          → cond b (round binary64 true (0 * down e - m * up e * 1) (down e * 1)) (round binary64 false (m * up e * 1 - 0 * down e) (down e * 1))
+          ≡ round binary64 false u 1
       go true k = absurd (not-suc-le-zero (subst (λ (n : ℕ). m * up e * 1 < n) (zero-mul (down e)) (k tt)))
       go false k =
           round-same binary64 false (m * up e * 1 - 0 * down e) (down e * 1) u 1 (mul-pos (down-pos e) one-pos) one-pos
-          (mul-one (m * up e * 1 - 0 * down e) ∙ ap (λ (n : ℕ). m * up e * 1 - n) (zero-mul (down e)) ∙ sub-zero (m * up e * 1) ∙ v ∙ ap (λ (n : ℕ). u * n) (sym (mul-one (down e))))
+          (mul-one (m * up e * 1 - 0 * down e) ∙ ap (λ (n : ℕ). m * up e * 1 - n) (zero-mul (down e)) ∙ sub-zero (m * up e * 1) ∙ v
+          ∙ ap (λ (n : ℕ). u * n) (sym (mul-one (down e))))
 
   pub linear-at-minus-zero : (e : ℤ) → add binary64 (figure u) (mul binary64 (fin true 0 e) (figure o)) ≡ figure u
   linear-at-minus-zero e =
-      ap (add binary64 (figure u)) (of-value (λ (y : Float). mul binary64 (fin true 0 e) y ≡ fin true 0 (pos 0)) (figure o) o 1 (figure-value o ho) (λ n g q. minus-zero e n g))
-      ∙ of-value (λ (y : Float). add binary64 y (fin true 0 (pos 0)) ≡ round binary64 false u 1) (figure u) u 1 (figure-value u hu) (λ m g q. add-minus-zero m g q)
-      ∙ sym (figure-is u)
+      let product : mul binary64 (fin true 0 e) (figure o) ≡ fin true 0 (pos 0) =
+      of-value (λ (y : Float). mul binary64 (fin true 0 e) y ≡ fin true 0 (pos 0)) (figure o) o 1 (figure-value o ho) (λ n g q. minus-zero e n g)
+      in
+      let same : add binary64 (figure u) (fin true 0 (pos 0)) ≡ round binary64 false u 1 =
+      of-value (λ (y : Float). add binary64 y (fin true 0 (pos 0)) ≡ round binary64 false u 1) (figure u) u 1 (figure-value u hu)
+      (λ m g q. add-minus-zero m g q)
+      in
+      ap (add binary64 (figure u)) product ∙ same ∙ sym (figure-is u)
 
   between-under : Between (figure u) (figure (u + o)) (figure u)
   between-under = record {

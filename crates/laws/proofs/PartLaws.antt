@@ -5,7 +5,7 @@ use mathlib.Core.List.{List, _++_, append-assoc}
 use lib.ListN.{length, take, drop, getD, length-take, length-drop, length-append, List·getD-append}
 use lib.Seq.{take-at, drop-at, take-append-add, drop-append-add, drop-drop, getD-take, getD-drop, length-take-le, ext-getD, sets, sets-eq}
 use native.Mathlib.Omega.{arith}
-use native.Mathlib.Nat.{suc-mul, mul-le-mul-right, le-refl}
+use native.Mathlib.Nat.{suc-mul, add-comm, mul-le-mul-right, le-refl}
 use native.Mathlib.Decide.{ℕ-discrete, decLt}
 use Rattle.laws.specs.Parts.{part, splice}
 
@@ -69,6 +69,10 @@ piece-room d k j n h room =
     let m : suc j * d ≤ k * d = mul-le-mul-right d h in
     omega (arith, suc-mul j d)
 
+-- the piece behind i begins one piece further than i does
+pub further : (d i : ℕ) → suc i * d ≡ d + i * d
+further d i = suc-mul i d ∙ add-comm (i * d) d
+
 module _ (d k j : ℕ) (ys l : List ℕ) (inside : j < k) (room : k * d ≤ length l) (long : length ys ≡ d) where
   here : j * d + d ≤ length l
   here = piece-room d k j (length l) inside room
@@ -80,7 +84,8 @@ module _ (d k j : ℕ) (ys l : List ℕ) (inside : j < k) (room : k * d ≤ leng
       by (yes h) = splice-before (j * d) d ys l here long (i * d) d (piece-room d j i (j * d) h (le-refl (j * d)))
       by (no h) = splice-behind (j * d) d ys l here long (i * d) d (piece-room d i j (i * d) (omega arith) (le-refl (i * d)))
 
-  pub pieces-splice : (P : ℕ → List ℕ → Type 0) → P j ys → ((i : ℕ) → i < k → P i (part (i * d) d l)) → (i : ℕ) → i < k → P i (part (i * d) d (splice (j * d) d ys l))
+  pub pieces-splice : (P : ℕ → List ℕ → Type 0) → P j ys → ((i : ℕ) → i < k → P i (part (i * d) d l))
+      → (i : ℕ) → i < k → P i (part (i * d) d (splice (j * d) d ys l))
   pieces-splice P p all i h = by (ℕ-discrete i j)
     where
       by : Dec (i ≡ j) → P i (part (i * d) d (splice (j * d) d ys l))

@@ -6,19 +6,21 @@ use mathlib.Core.List.{List, _++_, append-assoc}
 use lib.ListN.{length, take, drop, length-drop, take-append-drop}
 use lib.Seq.{drop-drop, length-take-le}
 use native.Mathlib.Omega.{arith}
-use native.Mathlib.Nat.{add-zero, zero-add, add-suc, suc-add, add-comm, add-assoc, zero-mul, suc-mul, eq-or-lt-of-le, le-of-suc-le-suc, lt-suc-self, le-refl, sub-zero}
+use native.Mathlib.Nat.{add-zero, zero-add, add-suc, suc-add, add-assoc, zero-mul, suc-mul, sub-zero}
+use native.Mathlib.Nat.{eq-or-lt-of-le, le-of-suc-le-suc, lt-suc-self, le-refl}
 use native.Mathlib.Numerals.{add-one}
 use Rattle.laws.specs.Steps.{Step, still, chain, made}
 use Rattle.laws.specs.Parts.{part, splice}
 use Rattle.laws.specs.Passes.{eachOf}
-use Rattle.laws.proofs.PartLaws.{part-length, splice-length, splice-taken, splice-dropped, splice-part, splice-append, piece-room, piece-other}
+use Rattle.laws.proofs.PartLaws.{part-length, splice-length, splice-taken, splice-dropped, splice-part, splice-append, further, piece-room, piece-other}
 
 module _ (f : ℕ → List ℕ → ℕ → Step) (size : ℕ) where
   each-zero : (j : ℕ) (l : List ℕ) (σ : ℕ) → eachOf f size j 0 l σ ≡ still l σ
   unfolding eachOf
   each-zero j l σ = refl
 
-  each-cons : (j k : ℕ) (l : List ℕ) (σ : ℕ) → eachOf f size j (suc k) l σ ≡ chain (f j (take size l) σ) (eachOf f size (suc j) k (drop size l) (f j (take size l) σ .state))
+  each-cons : (j k : ℕ) (l : List ℕ) (σ : ℕ)
+      → eachOf f size j (suc k) l σ ≡ chain (f j (take size l) σ) (eachOf f size (suc j) k (drop size l) (f j (take size l) σ .state))
   unfolding eachOf
   each-cons j k l σ = refl
 
@@ -26,11 +28,8 @@ module _ (f : ℕ → List ℕ → ℕ → Step) (size : ℕ) where
   abbrev stepAt : ℕ → ℕ → List ℕ → ℕ → Step
   stepAt j i l σ = f (j + i) (part (i * size) size l) (eachOf f size j i l σ .state)
 
-  further : (i : ℕ) → suc i * size ≡ size + i * size
-  further i = suc-mul i size ∙ add-comm (i * size) size
-
   step-suc : (j i : ℕ) (l : List ℕ) (σ : ℕ) → stepAt j (suc i) l σ ≡ stepAt (suc j) i (drop size l) (f j (take size l) σ .state)
-  step-suc j i l σ = rw (each-cons, further i, ← drop-drop (i * size) size l, add-suc, suc-add)
+  step-suc j i l σ = rw (each-cons, further size i, ← drop-drop (i * size) size l, add-suc, suc-add)
 
   module _ (keeps : (j : ℕ) (b : List ℕ) (σ : ℕ) → length b ≡ size → length (f j b σ .bytes) ≡ size) where
     pub each-suc : (i j : ℕ) (l : List ℕ) (σ : ℕ) → i * size + size ≤ length l
@@ -41,10 +40,10 @@ module _ (f : ℕ → List ℕ → ℕ → Step) (size : ℕ) where
         }
     each-suc zero j l σ room = each-cons j 0 l σ ∙ simp (each-zero, zero-mul, add-zero, zero-add)
     each-suc (suc i) j l σ room =
-        let less : i * size + size ≤ length (drop size l) = rw (length-drop size l) (omega (arith, further i)) in
+        let less : i * size + size ≤ length (drop size l) = rw (length-drop size l) (omega (arith, further size i)) in
         let long : length (f j (take size l) σ .bytes) ≡ size = keeps j (take size l) σ (length-take-le size l (omega arith)) in
         each-cons j (suc i) l σ ∙ ap (chain (f j (take size l) σ)) (each-suc i (suc j) (drop size l) (f j (take size l) σ .state) less)
-        ∙ rw (step-suc j i l σ, each-cons j i l σ, further i, splice-append (i * size) size size, add-assoc)
+        ∙ rw (step-suc j i l σ, each-cons j i l σ, further size i, splice-append (i * size) size size, add-assoc)
 
     step-length : (i j : ℕ) (l : List ℕ) (σ : ℕ) → i * size + size ≤ length l → length (stepAt j i l σ .bytes) ≡ size
     step-length i j l σ room = keeps (j + i) (part (i * size) size l) (eachOf f size j i l σ .state) (part-length (i * size) size l room)
@@ -54,7 +53,8 @@ module _ (f : ℕ → List ℕ → ℕ → Step) (size : ℕ) where
     each-length (suc k) j l σ room =
         let here : k * size + size ≤ length l = piece-room size (suc k) k (length l) (lt-suc-self k) room in
         let e : length (eachOf f size j k l σ .bytes) ≡ length l = each-length k j l σ (omega arith) in
-        rw (each-suc k j l σ here) (splice-length (k * size) size (stepAt j k l σ .bytes) (eachOf f size j k l σ .bytes) (rw e here) (step-length k j l σ here) ∙ e)
+        rw (each-suc k j l σ here)
+        (splice-length (k * size) size (stepAt j k l σ .bytes) (eachOf f size j k l σ .bytes) (rw e here) (step-length k j l σ here) ∙ e)
 
     pub each-piece : (k j i : ℕ) (l : List ℕ) (σ : ℕ) → i < k → k * size ≤ length l
         → part (i * size) size (eachOf f size j k l σ .bytes) ≡ f (j + i) (part (i * size) size l) (eachOf f size j i l σ .state) .bytes
@@ -66,13 +66,15 @@ module _ (f : ℕ → List ℕ → ℕ → Step) (size : ℕ) where
         rw (each-suc k j l σ here)
         (⊎-elim
         (λ q. rw q (splice-part (k * size) size (stepAt j k l σ .bytes) (eachOf f size j k l σ .bytes) (rw e here) long))
-        (λ q. piece-other size (suc k) k (stepAt j k l σ .bytes) (eachOf f size j k l σ .bytes) (lt-suc-self k) (rw e room) long i (λ n. omega arith) ∙ each-piece k j i l σ q (omega arith))
+        (λ q. piece-other size (suc k) k (stepAt j k l σ .bytes) (eachOf f size j k l σ .bytes) (lt-suc-self k) (rw e room) long i (λ n. omega arith)
+        ∙ each-piece k j i l σ q (omega arith))
         (eq-or-lt-of-le (le-of-suc-le-suc h)))
 
     -- what holds at the start and is kept by each step, of the pieces done, the draws made and the state
     module _ (k j : ℕ) (l : List ℕ) (σ : ℕ) (room : k * size ≤ length l) where
       module _ (Q : ℕ → ℕ → ℕ → Type 0) (first : Q 0 0 σ)
-          (next : (i n s : ℕ) → i < k → Q i n s → Q (suc i) (n + f (j + i) (part (i * size) size l) s .draws) (f (j + i) (part (i * size) size l) s .state)) where
+          (next : (i n s : ℕ) → i < k → Q i n s
+          → Q (suc i) (n + f (j + i) (part (i * size) size l) s .draws) (f (j + i) (part (i * size) size l) s .state)) where
         pub each-holds : (i : ℕ) → i ≤ k → Q i (eachOf f size j i l σ .draws) (eachOf f size j i l σ .state)
         each-holds zero h = rw each-zero first
         each-holds (suc i) h =
@@ -82,7 +84,9 @@ module _ (f : ℕ → List ℕ → ℕ → Step) (size : ℕ) where
         -- and of each piece, what the step makes where that holds
         pub each-keeps : (P : ℕ → List ℕ → Type 0) → ((i n s : ℕ) → i < k → Q i n s → P i (f (j + i) (part (i * size) size l) s .bytes))
             → (i : ℕ) → i < k → P i (part (i * size) size (eachOf f size j k l σ .bytes))
-        each-keeps P made i h = rw (each-piece k j i l σ h room) (made i (eachOf f size j i l σ .draws) (eachOf f size j i l σ .state) h (each-holds i (omega arith)))
+        each-keeps P made i h =
+            rw (each-piece k j i l σ h room)
+            (made i (eachOf f size j i l σ .draws) (eachOf f size j i l σ .state) h (each-holds i (omega arith)))
 
       pub each-draws : (m : ℕ) → ((i s : ℕ) → i < k → f (j + i) (part (i * size) size l) s .draws ≤ m) → eachOf f size j k l σ .draws ≤ k * m
       each-draws m few = each-holds (λ i n s. n ≤ i * m) (omega arith) (λ i n s h q. omega (arith, suc-mul i m, few i s h)) k (le-refl k)
@@ -138,16 +142,19 @@ module _ (f : ℕ → List ℕ → ℕ → Step) (size m k : ℕ) (l₀ : List �
       pub going-piece : take (a + d - a) (drop a l) ≡ part (i * size) size l₀
       going-piece = rw (w .rest) (going-beside l₀)
 
-      pub going-on : (ys : List ℕ) (s n : ℕ) → length ys ≡ length (take (a + d - a) (drop a l)) → made ys s n ≡ f i (take (a + d - a) (drop a l)) σ → n ≤ m
+      pub going-on : (ys : List ℕ) (s n : ℕ) → length ys ≡ length (take (a + d - a) (drop a l))
+          → made ys s n ≡ f i (take (a + d - a) (drop a l)) σ → n ≤ m
           → Going f size m k l₀ σ₀ (take a l ++ (ys ++ drop (a + d - a) (drop a l))) s (drawn + n) (a + d) (i + 1)
       going-on ys s n long e few =
           let q : k - i ≡ suc (k - (i + 1)) = omega arith in
           let here : made ys s n ≡ f i (part a size l) σ = rw mid at e in
           let full : length ys ≡ size = (rw mid at long) ∙ part-length a size l inside in
+          let taken = splice-taken a size ys l inside full in
+          let dropped = splice-dropped a size ys l inside full in
           rw (mid, whole)
           (record {
-            done = w .done ∙ rw (q, each-cons, ← here, splice-taken a size ys l inside full, splice-dropped a size ys l inside full, ← drop-drop size a l) (simp (append-assoc, add-assoc, add-one));
-            rest = splice-dropped a size ys l inside full ∙ rw (← drop-drop size a l, ← drop-drop size a l₀, w .rest);
+            done = w .done ∙ rw (q, each-cons, ← here, taken, dropped, ← drop-drop size a l) (simp (append-assoc, add-assoc, add-one));
+            rest = dropped ∙ rw (← drop-drop size a l, ← drop-drop size a l₀, w .rest);
             start = omega (arith, w .start);
             most = omega arith;
             room = w .room;

@@ -5,24 +5,22 @@ use mathlib.Core.List.{List, _++_}
 use lib.ListN.{length, take, drop, length-drop}
 use lib.Seq.{drop-drop, take-at, drop-at}
 use native.Mathlib.Omega.{arith}
-use native.Mathlib.Nat.{add-zero, add-suc, suc-add, add-comm, zero-mul, suc-mul}
+use native.Mathlib.Nat.{add-zero, add-suc, suc-add, zero-mul}
 use Rattle.laws.specs.Steps.{Step}
 use Rattle.laws.specs.Parts.{part}
 use Rattle.laws.specs.Passes.{eachOf}
+use Rattle.laws.proofs.PartLaws.{further}
 
 module _ (f : ℕ → List ℕ → ℕ → Step) (size : ℕ) where
-  further : (i : ℕ) → suc i * size ≡ size + i * size
-  further i = suc-mul i size ∙ add-comm (i * size) size
-
   -- the pieces behind the first, numbered from the next on
   behind : (i j : ℕ) (l : List ℕ) (τ : ℕ) → f (j + suc i) (part (suc i * size) size l) τ ≡ f (suc j + i) (part (i * size) size (drop size l)) τ
-  behind i j l τ = rw (further i, ← drop-drop (i * size) size l, add-suc, suc-add)
+  behind i j l τ = rw (further size i, ← drop-drop (i * size) size l, add-suc, suc-add)
 
   first-piece : (a b : List ℕ) → length a ≡ size → part (0 * size) size (a ++ b) ≡ a
   first-piece a b e = rw zero-mul (take-at a b size e)
 
   next-piece : (i : ℕ) (a b : List ℕ) → length a ≡ size → part (suc i * size) size (a ++ b) ≡ part (i * size) size b
-  next-piece i a b e = rw (further i, ← drop-drop (i * size) size (a ++ b), drop-at a b size e)
+  next-piece i a b e = rw (further size i, ← drop-drop (i * size) size (a ++ b), drop-at a b size e)
 
   pub each-made : (P : List ℕ → Type 0) (k j : ℕ) (l : List ℕ) (σ : ℕ) → k * size ≤ length l
       → ((i τ : ℕ) → i < k → (length (f (j + i) (part (i * size) size l) τ .bytes) ≡ size) × P (f (j + i) (part (i * size) size l) τ .bytes))
@@ -34,13 +32,15 @@ module _ (f : ℕ → List ℕ → ℕ → Step) (size : ℕ) where
       rw (first-piece (f j (take size l) σ .bytes) _ (here .0)) (here .1)
   each-made P (suc k) j l σ room made (suc i) h =
       let here = rw (zero-mul, add-zero) at (made 0 σ (omega arith)) in
-      let less : k * size ≤ length (drop size l) = rw (length-drop size l) (omega (arith, further k)) in
+      let less : k * size ≤ length (drop size l) = rw (length-drop size l) (omega (arith, further size k)) in
       rw (next-piece i (f j (take size l) σ .bytes) _ (here .0))
-      (each-made P k (suc j) (drop size l) (f j (take size l) σ .state) less (λ i' τ h'. rw (behind i' j l τ) at (made (suc i') τ (omega arith))) i (omega arith))
+      (each-made P k (suc j) (drop size l) (f j (take size l) σ .state) less
+      (λ i' τ h'. rw (behind i' j l τ) at (made (suc i') τ (omega arith))) i (omega arith))
 
   -- what is known of the state and the draws of each step is known of the whole, if it adds up
   module _ (after : ℕ → ℕ → ℕ) (none : (σ : ℕ) → σ ≡ after 0 σ) (adds : (m n σ : ℕ) → after (m + n) σ ≡ after n (after m σ)) where
-    pub each-drawn : (k j : ℕ) (l : List ℕ) (σ : ℕ) → ((i τ : ℕ) → i < k → f (j + i) (part (i * size) size l) τ .state ≡ after (f (j + i) (part (i * size) size l) τ .draws) τ)
+    pub each-drawn : (k j : ℕ) (l : List ℕ) (σ : ℕ)
+        → ((i τ : ℕ) → i < k → f (j + i) (part (i * size) size l) τ .state ≡ after (f (j + i) (part (i * size) size l) τ .draws) τ)
         → eachOf f size j k l σ .state ≡ after (eachOf f size j k l σ .draws) σ
     unfolding eachOf
     each-drawn zero j l σ drawn = none σ

@@ -48,7 +48,8 @@ least-within (suc k) e f g h =
     record { low = omega arith; high = omega arith }
 
 -- the first within e, each other within 2 e
-pub total-within : (k e : ℕ) (f g : ℕ → ℕ) → Within e (f 0) (g 0) → ((i : ℕ) → 0 < i → i ≤ k → Within (2 * e) (f i) (g i)) → Within ((2 * k + 1) * e) (total k f) (total k g)
+pub total-within : (k e : ℕ) (f g : ℕ → ℕ) → Within e (f 0) (g 0) → ((i : ℕ) → 0 < i → i ≤ k → Within (2 * e) (f i) (g i))
+    → Within ((2 * k + 1) * e) (total k f) (total k g)
 unfolding total
 total-within zero e f g h m = record { low = omega (arith, h .low); high = omega (arith, h .high) }
 total-within (suc k) e f g h m =

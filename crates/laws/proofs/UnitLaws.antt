@@ -1,4 +1,5 @@
--- The clock's fraction, 1.0 − remainder / length, is from 0 to 1: rounding keeps the order of fractions, so the rounded quotient is at most 1, and the rounded difference from 0 to 1.
+-- The clock's fraction, 1.0 − remainder / length, is from 0 to 1: rounding keeps the order of fractions, so the rounded quotient is at most 1,
+-- and the rounded difference from 0 to 1.
 use mathlib.Core.Path.{_≡_, refl, sym, ap, _∙_, subst}
 use mathlib.Core.Bool.{true, false, not}
 use mathlib.Core.Logic.{_⊎_, inl, inr, ⊎-elim}
@@ -39,7 +40,9 @@ below-one q g u U v t =
 difference-unit : (q : Float) (g u : ℕ) → 0 < u → HasValue q false g u → T (le q (figure 1)) → T (inUnit (sub binary64 (figure 1) q))
 difference-unit q g u U v t =
     let h : g ≤ u = below-one q g u U v t in
-    let is : sub binary64 (figure 1) q ≡ round binary64 false (u - g) u = value-sub (figure 1) q 1 1 g u one-pos U one-value v (omega arith) ∙ simp (mul-one, one-mul) in
+    let is : sub binary64 (figure 1) q ≡ round binary64 false (u - g) u =
+    value-sub (figure 1) q 1 1 g u one-pos U one-value v (omega arith) ∙ simp (mul-one, one-mul)
+    in
     rw is (rounded-unit (u - g) u U (omega arith))
 
 pub fraction-unit : (rem len : ℕ) → rem ≤ len → 0 < len → len ≤ 2 ^ 53 → inUnit (sub binary64 (figure 1) (div binary64 (figure rem) (figure len))) ≡ true
@@ -66,14 +69,18 @@ abbrev pub UnitCases : Float → Type 0
 UnitCases x = ((e : ℤ) × (x ≡ fin true 0 e)) ⊎ (HasValue x false (num x) (den x) × (num x ≤ den x))
 
 no-size : (m : ℕ) (e : ℤ) → 0 * down e ≡ m * up e * 1 → m ≡ 0
-no-size m e h = ⊎-elim (λ z. z) (λ p. absurd (lt-irrefl 0 (subst (λ (n : ℕ). 0 < n) (sym (mul-one (m * up e)) ∙ sym h ∙ zero-mul (down e)) (mul-pos p (up-pos e))))) (eq-zero-or-pos m)
+no-size m e h =
+    let none : m * up e ≡ 0 = sym (mul-one (m * up e)) ∙ sym h ∙ zero-mul (down e) in
+    ⊎-elim (λ z. z) (λ p. absurd (lt-irrefl 0 (subst (λ (n : ℕ). 0 < n) none (mul-pos p (up-pos e))))) (eq-zero-or-pos m)
 
 cases-at : (x : Float) → T (le (fin false 0 (pos 0)) x) → T (le x (fin false 1 (pos 0))) → T (le x (figure 1)) → UnitCases x
 unfolding le
 cases-at nan h k t = absurd h
 cases-at (inf true) h k t = absurd h
 cases-at (inf false) h k t = absurd k
-cases-at (fin true m e) h k t = inl (e, ap (λ (n : ℕ). fin true n e) (no-size m e (eqb→eq (0 * down e) (m * up e * 1) (and-l (eqb (0 * down e) (m * up e * 1)) (eqb (0 * down e) 0) h))))
+cases-at (fin true m e) h k t =
+    let same = eqb→eq (0 * down e) (m * up e * 1) (and-l (eqb (0 * down e) (m * up e * 1)) (eqb (0 * down e) 0) h) in
+    inl (e, ap (λ (n : ℕ). fin true n e) (no-size m e same))
 cases-at (fin false m e) h k t = inr ((refl, refl), below-one (fin false m e) (m * up e) (down e) (down-pos e) (refl, refl) t)
 
 pub unit-cases : (x : Float) → inUnit x ≡ true → UnitCases x

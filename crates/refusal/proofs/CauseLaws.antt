@@ -10,7 +10,8 @@ use borrow.Author.Tests.{leb-true, eqb-true, eq-eqb}
 use Rattle.refusal.specs.declared.Verdict.{Verdict}
 use Rattle.refusal.specs.declared.Verdict.the-variants.{Accepted}
 use Rattle.refusal.specs.Refusals.{isAccepted, numberOf, whenAccepted}
-use Rattle.refusal.specs.Causes.{Cause, cause, unsound, told, holds, firstOf, applies, numbersOf, table, placeIn, rankOf, rankedFrom, Told, ToldInLoadOrder, Lowest, FirstHolding, First}
+use Rattle.refusal.specs.Causes.{Cause, cause, unsound, told, holds, firstOf, applies, numbersOf, table, placeIn, rankOf, rankedFrom}
+use Rattle.refusal.specs.Causes.{Told, ToldInLoadOrder, Lowest, FirstHolding, First}
 use Rattle.refusal.proofs.VerdictLaws.{accepted-is, refused-leaves}
 
 -- a cause turns a call back
@@ -76,7 +77,8 @@ unfolding firstOf
 told-applies [] e = absurd (true≢false e)
 told-applies (x ∷ xs) e = by (holds x) refl (told-applies xs)
   where
-    by : (h : Bool) → holds x ≡ h → (isAccepted (firstOf xs) ≡ false → applies (numberOf (firstOf xs)) xs ≡ true) → applies (numberOf (firstOf (x ∷ xs))) (x ∷ xs) ≡ true
+    by : (h : Bool) → holds x ≡ h → (isAccepted (firstOf xs) ≡ false → applies (numberOf (firstOf xs)) xs ≡ true)
+        → applies (numberOf (firstOf (x ∷ xs))) (x ∷ xs) ≡ true
     by true q later = rw (first-holds x xs q) (applies-here x xs q)
     by false q later = rw (first-fails x xs q, applies-later x xs (numberOf (firstOf xs)) q) (later (rw (first-fails x xs q) at e))
 

@@ -1,8 +1,7 @@
 -- What a verdict decides, by its three cases. Assumes nothing.
 use Prim.Native.Nat.{ℕ, _≤_}
-use mathlib.Core.Path.{_≡_, refl, sym, _∙_}
+use mathlib.Core.Path.{_≡_, refl, sym, ap, _∙_}
 use mathlib.Core.Bool.{Bool, true, false, not, _||_, true≢false}
-use native.Mathlib.Omega.{arith}
 use lib.Dec.{ltb}
 use borrow.Author.Tests.{ltb-false, le-ltb, not-true, not-false}
 use Rattle.refusal.specs.declared.Verdict.{Verdict}
@@ -14,6 +13,9 @@ pub accepted-is : (v : Verdict) → isAccepted v ≡ true → v ≡ Accepted
 accepted-is Accepted e = refl
 accepted-is (Refused k) e = absurd (true≢false (sym e))
 accepted-is (Unsound j) e = absurd (true≢false (sym e))
+
+pub refused-never : (v : Verdict) → isAccepted v ≡ false → v ≡ Accepted → ⊥
+refused-never v e q = true≢false (sym (ap isAccepted q) ∙ e)
 
 pub refused-leaves {ℓ} : {A : Type ℓ} (v : Verdict) (done left : A) → isAccepted v ≡ false → whenAccepted v done left ≡ left
 refused-leaves Accepted done left e = absurd (true≢false e)
@@ -35,10 +37,7 @@ refuse-then k false rest = refl
 
 -- where all is accepted, no cause holds
 pub not-refused : (k : ℕ) (cause : Bool) (rest : Verdict) → refuse k cause rest ≡ Accepted → (cause ≡ false) × (rest ≡ Accepted)
-not-refused k true rest e = absurd (never k e)
-  where
-    never : (k : ℕ) → Refused k ≡ Accepted → ⊥
-    never k e = let z : _≡_ {A = ℕ} 0 1 = cc in omega arith
+not-refused k true rest e = absurd (refused-never (Refused k) refl e)
 not-refused k false rest e = (refl, e)
 
 pub inside-range : (low high x : ℕ) → outside low high x ≡ false → (low ≤ x) × (x ≤ high)

@@ -5,4 +5,7 @@ use Rattle.rounding.specs.Causes.{DrawCalls}
 
 pub draw-calls : DrawCalls
 unfolding firstOf numbersOf placeIn rankedFrom
-draw-calls = record { draw = λ σ. record { is = refl; numbered = refl; ordered = refl }; division = λ d σ. record { is = refl; numbered = refl; ordered = refl } }
+draw-calls = record {
+  draw = λ σ. record { is = refl; numbered = refl; ordered = refl };
+  division = λ d σ. record { is = refl; numbered = refl; ordered = refl };
+}

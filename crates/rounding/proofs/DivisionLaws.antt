@@ -25,11 +25,13 @@ module _ (v d σ : ℕ) where
   unfolding roundedDiv
   whole-case e = simp (eq-eqb _ _ e)
 
-  pub up-case : (r : Draw) → (v % d ≡ 0 → ⊥) → r ≡ drawOf σ → r .value % d < v % d → record { value = v / d + 1; state = r .state; draws = 1 } ≡ roundedDiv v d σ
+  pub up-case : (r : Draw) → (v % d ≡ 0 → ⊥) → r ≡ drawOf σ → r .value % d < v % d
+      → record { value = v / d + 1; state = r .state; draws = 1 } ≡ roundedDiv v d σ
   unfolding roundedDiv
   up-case r n e h = rw e (simp (ne-eqb _ _ n, lt-ltb _ _ (rw e at h)))
 
-  pub down-case : (r : Draw) → (v % d ≡ 0 → ⊥) → r ≡ drawOf σ → v % d ≤ r .value % d → record { value = v / d; state = r .state; draws = 1 } ≡ roundedDiv v d σ
+  pub down-case : (r : Draw) → (v % d ≡ 0 → ⊥) → r ≡ drawOf σ → v % d ≤ r .value % d
+      → record { value = v / d; state = r .state; draws = 1 } ≡ roundedDiv v d σ
   unfolding roundedDiv
   down-case r n e h = rw e (simp (ne-eqb _ _ n, le-ltb _ _ (rw e at h)))
 

@@ -27,7 +27,8 @@ fixed-up : (x : ℕ) → x ≡ (x * 2 ^ 25) % 2 ^ 64 → x ≡ 0
 fixed-up x e =
     let low25 : x % 2 ^ 25 ≡ 0 = ap (λ (n : ℕ). n % 2 ^ 25) e ∙ mod-mod-pow (x * 2 ^ 25) 39 25 ∙ mul-mod-left x (2 ^ 25) in
     let by50 : x * 2 ^ 25 ≡ x / 2 ^ 25 * 2 ^ 50 = omega arith in
-    let low50 : x % 2 ^ 50 ≡ 0 = ap (λ (n : ℕ). n % 2 ^ 50) (e ∙ ap (λ (n : ℕ). n % 2 ^ 64) by50) ∙ mod-mod-pow (x / 2 ^ 25 * 2 ^ 50) 14 50 ∙ mul-mod-left (x / 2 ^ 25) (2 ^ 50) in
+    let up50 : x ≡ x / 2 ^ 25 * 2 ^ 50 % 2 ^ 64 = e ∙ ap (λ (n : ℕ). n % 2 ^ 64) by50 in
+    let low50 : x % 2 ^ 50 ≡ 0 = ap (λ (n : ℕ). n % 2 ^ 50) up50 ∙ mod-mod-pow (x / 2 ^ 25 * 2 ^ 50) 14 50 ∙ mul-mod-left (x / 2 ^ 25) (2 ^ 50) in
     let by64 : x * 2 ^ 25 ≡ x / 2 ^ 50 * 2 ^ 11 * 2 ^ 64 = omega arith in
     e ∙ ap (λ (n : ℕ). n % 2 ^ 64) by64 ∙ mul-mod-left (x / 2 ^ 50 * 2 ^ 11) (2 ^ 64)
 

@@ -12,10 +12,14 @@ returns : tie.Need-returns
 returns c = search (length-none, needs)
 
 returns-2 : tie.Need-returns-2
-returns-2 c = length-long (c .before .before .before .args .clock) _ (c .before .before .length .ensures) (omega arith)
+returns-2 c =
+    let measured = c .before .before in
+    length-long (measured .before .args .clock) _ (measured .length .ensures) (omega arith)
 
 returns-3 : tie.Need-returns-3
-returns-3 c = length-good (c .before .before .before .args .clock) _ (c .before .before .length .ensures) (omega arith) (omega arith)
+returns-3 c =
+    let measured = c .before .before in
+    length-good (measured .before .args .clock) _ (measured .length .ensures) (omega arith) (omega arith)
 
 pub judged-spec : {M : Type 1} → statement M
 judged-spec = tie.close (tie.spec length-requires returns returns-2 returns-3)

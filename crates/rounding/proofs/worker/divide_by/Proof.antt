@@ -21,7 +21,11 @@ rem-if2 : tie.Need-rem-if2
 rem-if2 c = search needs
 
 add-t9 : tie.Need-add-t9
-add-t9 c = omega (arith, quotient-lt (c .before .before .before .before .args .value) (c .before .before .before .before .args .divisor) (search needs) (c .before .before .before .if1 .left))
+add-t9 c =
+    let drawn = c .before .before in
+    let uneven = drawn .before in
+    let a = uneven .before .args in
+    omega (arith, quotient-lt (a .value) (a .divisor) (search needs) (uneven .if1 .left))
 
 returns-2 : tie.Need-returns-2
 returns-2 c = search (up-case, needs)
