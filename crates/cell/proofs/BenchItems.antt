@@ -16,7 +16,8 @@ use Rattle.cell.specs.Merge.{scaleDown, addPair, addEach, cutEach, settl
 use Rattle.cell.specs.BenchSheet.{CellItems, cellWith, oneDraw, doubled}
 
 item-9-odd : doubled 0 (cellWith 255 0 0 1 1) 1 ≡ oneDraw (cellWith 255 0 0 2 0) 1
-unfolding mergeOf sumsOf addEach addPair scaleDown settleFrom cutEach divideEach allAtMost roundedDiv nextState yielded xorUp xorDown shutterOf withShutter numberOf bytesOf maxZoom highest
+unfolding mergeOf sumsOf addEach addPair scaleDown settleFrom cutEach divideEach allAtMost roundedDiv nextState yielded xorUp xorDown
+    shutterOf withShutter numberOf bytesOf maxZoom highest
 item-9-odd = refl
 
 none : (τ : ℕ) → roundedDiv 0 2 τ ≡ record { value = 0; state = τ; draws = 0 }
@@ -27,14 +28,17 @@ none τ = refl
 half-up : (σ : ℕ) → yielded (nextState σ) % 2 ≡ 0 → divideEach 2 (511 ∷ 0 ∷ 0 ∷ []) σ ≡ made (256 ∷ 0 ∷ 0 ∷ []) (nextState σ) 1
 unfolding divideEach
 half-up σ e =
-    let up : roundedDiv 511 2 σ ≡ record { value = 256; state = nextState σ; draws = 1 } = sym (up-case 511 2 σ (drawOf σ) (λ z. omega arith) refl (omega arith)) in
+    let up : roundedDiv 511 2 σ ≡ record { value = 256; state = nextState σ; draws = 1 } =
+    sym (up-case 511 2 σ (drawOf σ) (λ z. omega arith) refl (omega arith))
+    in
     rw (up, none, none) refl
 
 half-again : (σ : ℕ) → divideEach 2 (256 ∷ 0 ∷ 0 ∷ []) σ ≡ still (128 ∷ 0 ∷ 0 ∷ []) σ
 unfolding divideEach roundedDiv
 half-again σ = refl
 
-two-raises : (left σ : ℕ) → yielded (nextState σ) % 2 ≡ 0 → settleFrom 2 (suc (suc (suc left))) 1 (511 ∷ 0 ∷ 0 ∷ []) σ ≡ record { zoom = 3; sums = oneDraw (128 ∷ 0 ∷ 0 ∷ []) σ }
+two-raises : (left σ : ℕ) → yielded (nextState σ) % 2 ≡ 0
+    → settleFrom 2 (suc (suc (suc left))) 1 (511 ∷ 0 ∷ 0 ∷ []) σ ≡ record { zoom = 3; sums = oneDraw (128 ∷ 0 ∷ 0 ∷ []) σ }
 unfolding settleFrom allAtMost
 two-raises left σ e = rw (half-up σ e, half-again (nextState σ)) refl
 
@@ -50,7 +54,9 @@ item-9-even : (σ : ℕ) → yielded (nextState σ) % 2 ≡ 0 → doubled 0 (cel
 item-9-even σ e = before-settling σ ∙ rw (two-raises 27 σ e) (after-settling σ)
 
 pub cell-items : CellItems
-unfolding insertOf creditOf zoomOutOf divideEach roundedDiv nextState yielded xorUp xorDown shutterOf withShutter numberOf bytesOf maxZoom highest crossOf insideOf closeOf clearOf emptied zoomInFrom zoomedIn timesEach allAtMost ceilingOf mergeOf sumsOf addEach addPair scaleDown settleFrom cutEach
+unfolding insertOf creditOf zoomOutOf divideEach roundedDiv nextState yielded xorUp xorDown shutterOf withShutter numberOf bytesOf maxZoom highest
+    crossOf insideOf closeOf clearOf emptied zoomInFrom zoomedIn timesEach allAtMost ceilingOf
+    mergeOf sumsOf addEach addPair scaleDown settleFrom cutEach
 cell-items = record {
   item-1 = λ σ. refl;
   item-2 = λ σ. refl;

@@ -7,7 +7,7 @@ use Rattle.laws.specs.Steps.{Step}
 use Rattle.refusal.specs.declared.Verdict.{Verdict}
 use Rattle.refusal.specs.declared.Verdict.the-variants.{Accepted, Refused, Unsound}
 use Rattle.refusal.specs.Refusals.{isAccepted}
-use Rattle.refusal.proofs.VerdictLaws.{refused-leaves}
+use Rattle.refusal.proofs.VerdictLaws.{refused-leaves, turned-back, let-pass}
 use Rattle.rounding.specs.declared.Rounding.{Rounding}
 use Rattle.cell.specs.declared.MicroParams.{MicroParams}
 use Rattle.cell.specs.declared.MicroLayout.{MicroLayout}
@@ -15,7 +15,7 @@ use Rattle.cell.specs.declared.CellAnswer.{CellAnswer}
 use Rattle.cell.specs.declared.Drawn.{Drawn}
 use Rattle.cell.specs.Refusals.{paramsVerdict, layoutOf, noLayout, layoutCall, cellOutcome, cellCall}
 use Rattle.cell.specs.Workers.{turnedBack, doneWith, stepOf}
-use Rattle.cell.proofs.JudgingLaws.{turned-back, let-pass, settled-t, settled-c}
+use Rattle.cell.proofs.JudgingLaws.{settled-t, settled-c}
 
 -- SETTINGS
 module _ (p : MicroParams) (v : Verdict) (judged : v ≡ paramsVerdict p) (ok : Bool) (asked : ok ≡ isAccepted v) where
@@ -35,16 +35,15 @@ module _ (p : MicroParams) (v : Verdict) (judged : v ≡ paramsVerdict p) (ok : 
     layout-done l e = rw (← judged, let-pass v ok asked h, e) refl
 
 -- CHANGING A CELL
-turned-outcome : (v : Verdict) (s : Step) (b : List ℕ) (ρ : Rounding) (a : CellAnswer) → isAccepted v ≡ false → a ≡ turnedBack v ρ → cellOutcome b a ≡ cellCall v s b (ρ .state)
+turned-outcome : (v : Verdict) (s : Step) (b : List ℕ) (ρ : Rounding) (a : CellAnswer) → isAccepted v ≡ false → a ≡ turnedBack v ρ
+    → cellOutcome b a ≡ cellCall v s b (ρ .state)
 turned-outcome Accepted s b ρ a h e = absurd (true≢false h)
 turned-outcome (Refused k) s b ρ a h e = ap (cellOutcome b) e
 turned-outcome (Unsound j) s b ρ a h e = ap (cellOutcome b) e
 
-done-outcome : (v : Verdict) (s : Step) (b : List ℕ) (σ : ℕ) (l : List ℕ) (d : Drawn) (a : CellAnswer) → v ≡ Accepted → stepOf l d ≡ s → a ≡ doneWith d → cellOutcome l a ≡ cellCall v s b σ
+done-outcome : (v : Verdict) (s : Step) (b : List ℕ) (σ : ℕ) (l : List ℕ) (d : Drawn) (a : CellAnswer) → v ≡ Accepted → stepOf l d ≡ s → a ≡ doneWith d
+    → cellOutcome l a ≡ cellCall v s b σ
 done-outcome v s b σ l d a h e q = rw (h, ← e) (ap (cellOutcome l) q)
-
-pub refused-never : (v : Verdict) → isAccepted v ≡ false → v ≡ Accepted → ⊥
-refused-never v e q = true≢false (sym (ap isAccepted q) ∙ e)
 
 -- a call with the verdict v, which is the definition's w
 module _ (v w : Verdict) (same : v ≡ w) (ok : Bool) (asked : ok ≡ isAccepted v) (s : Step) (b : List ℕ) (ρ : Rounding) (a : CellAnswer) where

@@ -1,16 +1,16 @@
 -- Each field of a cell stands in bytes of its own: it reads what was written to it, and no writing of another field changes it. Assumes nothing.
-use Prim.Native.Nat.{ℕ, zero, suc, _+_, _^_, _≤_, _<_}
+use Prim.Native.Nat.{ℕ, _+_, _^_, _≤_, _<_}
 use mathlib.Core.Path.{_≡_, refl, sym, ap, _∙_}
-use mathlib.Core.List.{List, [], _∷_, _++_}
+use mathlib.Core.List.{List, _++_}
 use lib.ListN.{length, take, drop, getD, set, length-set, length-drop, length-append, take-append-drop, List·getD-append}
 use lib.Seq.{getD-set-same, getD-set-other, getD-drop, take-set-le, take-set-lt, drop-set-lt, take-at, drop-at, drop-drop}
 use native.Mathlib.Omega.{arith}
 use native.Mathlib.Nat.{add-zero, mod-lt}
-use Rattle.laws.specs.Bytes.{numberOf, bytesOf}
+use Rattle.laws.specs.Bytes.{bytesOf}
 use Rattle.laws.specs.Parts.{part}
 use Rattle.laws.proofs.PartLaws.{part-length, splice-length, splice-before, splice-dropped, splice-at-before}
-use Rattle.laws.proofs.ByteLaws.{bytes-length, bytes-small, number-splice}
-use Rattle.cell.proofs.SmallLaws.{Small, small-join, small-take, small-drop, small-set}
+use Rattle.laws.proofs.ByteLaws.{bytes-length, bytes-small, no-bytes, number-splice}
+use Rattle.cell.proofs.SmallLaws.{Small, small-append, small-take, small-drop, small-set}
 use Rattle.cell.specs.Cell.{pixelsOf, padAt, depthOf, slotOf, pixelsIn, pixelOf, zoomOf, shutterOf, withPixel, withPixels, withZoom, withShutter}
 
 -- what every change of a cell keeps
@@ -120,18 +120,8 @@ module _ (t : ℕ) (px b : List ℕ) (many : length px ≡ pixelsOf t) where
   with-pixels-kept a k size h = record {
     long = length-append px (drop (t + 2) b) ∙ simp length-drop (omega (arith, k .long));
     pads = behind-pads t (withPixels t px b) b (past-zoom t (withPixels t px b) b rest-kept) ∙ k .pads;
-    small = λ s. small-join px (drop (t + 2) b) (h s) (small-drop (t + 2) b (k .small s));
+    small = λ s. small-append px (drop (t + 2) b) (h s) (small-drop (t + 2) b (k .small s));
   }
-
--- bytes that make up 0 are all 0
-no-bytes : (w : ℕ) (l : List ℕ) → length l ≡ w → numberOf l ≡ 0 → bytesOf w 0 ≡ l
-unfolding numberOf bytesOf
-no-bytes zero [] h e = refl
-no-bytes zero (x ∷ xs) h e = absurd (omega arith)
-no-bytes (suc w) [] h e = absurd (omega arith)
-no-bytes (suc w) (x ∷ xs) h e =
-    let none : x ≡ 0 = omega arith in
-    rw none (ap (λ (l : List ℕ). 0 ∷ l) (no-bytes w xs (omega arith) (omega arith)))
 
 -- to empty a shutter that is empty changes nothing
 pub with-shutter-none : (t : ℕ) (b : List ℕ) → length b ≡ depthOf t → shutterOf t b ≡ 0 → withShutter t 0 b ≡ b
@@ -168,6 +158,6 @@ module _ (t s : ℕ) (b : List ℕ) (size : length b ≡ depthOf t) where
   with-shutter-kept = record {
     long = splice-length (t + 3) 4 (bytesOf 4 s) b room four;
     pads = let q : t + 3 + 4 ≡ t + 7 = omega arith in rw q at (splice-dropped (t + 3) 4 (bytesOf 4 s) b room four);
-    small = λ h. small-join (take (t + 3) b) (bytesOf 4 s ++ drop 4 (drop (t + 3) b)) (small-take (t + 3) b h)
-        (small-join (bytesOf 4 s) (drop 4 (drop (t + 3) b)) (bytes-small 4 s) (small-drop 4 (drop (t + 3) b) (small-drop (t + 3) b h)));
+    small = λ h. small-append (take (t + 3) b) (bytesOf 4 s ++ drop 4 (drop (t + 3) b)) (small-take (t + 3) b h)
+        (small-append (bytesOf 4 s) (drop 4 (drop (t + 3) b)) (bytes-small 4 s) (small-drop 4 (drop (t + 3) b) (small-drop (t + 3) b h)));
   }

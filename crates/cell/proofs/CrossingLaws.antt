@@ -16,10 +16,13 @@ use Rattle.rounding.specs.Draws.{stateAfter, roundedDiv}
 use Rattle.rounding.proofs.DivisionLaws.{draws-le, state-is}
 use Rattle.cell.specs.Cell.{pixelsOf, depthOf, slotOf, pixelsIn, zoomOf, shutterOf, unitOf, withPixel, withPixels, withShutter, maxZoom, soundOf}
 use Rattle.cell.specs.Insertion.{creditOf}
-use Rattle.cell.specs.Crossing.{closeOf, clearOf, emptied, endedOf, beginOf, insideOf, ceilingOf, allAtMost, timesEach, zoomedIn, zoomInFrom, zoomInOf, crossOf}
+use Rattle.cell.specs.Crossing.{closeOf, clearOf, emptied, endedOf, beginOf, insideOf, crossOf}
+use Rattle.cell.specs.Crossing.{ceilingOf, allAtMost, timesEach, zoomedIn, zoomInFrom, zoomInOf}
 use Rattle.cell.specs.Workers.{Fit}
 use Rattle.cell.proofs.SmallLaws.{Small}
-use Rattle.cell.proofs.CellLaws.{Kept, kept-same, kept-then, slot-inside, with-pixel-zoom, with-pixel-shutter, with-pixel-kept, with-zoom-zoom, with-zoom-shutter, with-zoom-kept, with-pixels-zoom, with-pixels-shutter, with-pixels-kept, with-shutter-shutter, with-shutter-zoom, with-shutter-kept}
+use Rattle.cell.proofs.CellLaws.{Kept, kept-same, kept-then, slot-inside, with-pixel-zoom, with-pixel-shutter, with-pixel-kept}
+use Rattle.cell.proofs.CellLaws.{with-zoom-zoom, with-zoom-shutter, with-zoom-kept, with-pixels-zoom, with-pixels-shutter, with-pixels-kept}
+use Rattle.cell.proofs.CellLaws.{with-shutter-shutter, with-shutter-zoom, with-shutter-kept}
 use Rattle.cell.proofs.PowerLaws.{max-zoom-limit}
 use Rattle.cell.proofs.SoundLaws.{sound-zoom, sound-empty}
 use Rattle.cell.proofs.InsertionLaws.{Credited, credited}
@@ -84,7 +87,8 @@ module _ (t : ℕ) where
   clear-kept zero first b = kept-same t b
   clear-kept (suc k) first b =
       let next : List ℕ = withPixel (slotOf t first) 0 b in
-      kept-then t b next (clearOf t k (first + 1) next) (with-pixel-kept t (slotOf t first) 0 b (slot-inside t first) (omega arith)) (clear-kept k (first + 1) next)
+      let one : Kept t b next = with-pixel-kept t (slotOf t first) 0 b (slot-inside t first) (omega arith) in
+      kept-then t b next (clearOf t k (first + 1) next) one (clear-kept k (first + 1) next)
 
   pub clear-zoom : (k first : ℕ) (b : List ℕ) → zoomOf t (clearOf t k first b) ≡ zoomOf t b
   unfolding clearOf
@@ -107,7 +111,9 @@ module _ (t c : ℕ) (b : List ℕ) (σ : ℕ) (fit : Fit t c (length b)) where
   zeroed = withPixels t (replicate (pixelsOf t) 0) b
 
   zeroed-kept : Kept t b zeroed
-  zeroed-kept = with-pixels-kept t (replicate (pixelsOf t) 0) b (length-replicate (pixelsOf t) 0) b (kept-same t b) (fit .size-is) (λ h. zeros-small (pixelsOf t))
+  zeroed-kept =
+      with-pixels-kept t (replicate (pixelsOf t) 0) b (length-replicate (pixelsOf t) 0) b (kept-same t b) (fit .size-is)
+      (λ h. zeros-small (pixelsOf t))
 
   zeroed-size : length zeroed ≡ depthOf t
   zeroed-size = zeroed-kept .long ∙ fit .size-is
@@ -139,7 +145,9 @@ module _ (t c n crossed : ℕ) (b : List ℕ) (σ : ℕ) (fit : Fit t c (length 
   pub inside-quiet : Quiet t c b σ (insideOf t c n crossed b σ)
   unfolding insideOf
   inside-quiet =
-      let z : zoomOf t (clearOf t crossed (beginOf n crossed) (shut .bytes)) ≡ zoomOf t (shut .bytes) = clear-zoom t crossed (beginOf n crossed) (shut .bytes) in
+      let z : zoomOf t (clearOf t crossed (beginOf n crossed) (shut .bytes)) ≡ zoomOf t (shut .bytes) =
+      clear-zoom t crossed (beginOf n crossed) (shut .bytes)
+      in
       either (Quiet t c b σ) (leb (pixelsOf t) crossed) (still (emptied t b) σ) (leaving shut (clearOf t crossed (beginOf n crossed) (shut .bytes)))
       (λ e. emptied-quiet t c b σ fit)
       (λ e. record {

@@ -33,10 +33,12 @@ module _ (c : ℕ) where
   divide-state [] σ = refl
   divide-state (v ∷ vs) σ =
       let d = roundedDiv v c σ in
-      divide-state vs (d .state) ∙ ap (stateAfter (divideEach c vs (d .state) .draws)) (state-is v c σ) ∙ sym (after-add (d .draws) (divideEach c vs (d .state) .draws) σ)
+      let rest = divideEach c vs (d .state) .draws in
+      divide-state vs (d .state) ∙ ap (stateAfter rest) (state-is v c σ) ∙ sym (after-add (d .draws) rest σ)
 
   -- what a rounded division does to any number, whatever the state, is done to each
-  pub divide-each : (P : ℕ → ℕ → Type 0) → ((v σ : ℕ) → P v (roundedDiv v c σ .value)) → (l : List ℕ) (σ i : ℕ) → i < length l → P (getD l i 0) (getD (divideEach c l σ .bytes) i 0)
+  pub divide-each : (P : ℕ → ℕ → Type 0) → ((v σ : ℕ) → P v (roundedDiv v c σ .value))
+      → (l : List ℕ) (σ i : ℕ) → i < length l → P (getD l i 0) (getD (divideEach c l σ .bytes) i 0)
   unfolding divideEach
   divide-each P p [] σ i h = absurd (omega arith)
   divide-each P p (v ∷ vs) σ zero h = p v σ

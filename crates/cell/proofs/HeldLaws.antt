@@ -8,17 +8,18 @@ use borrow.Author.Tests.{lt-ltb, le-ltb}
 use Rattle.refusal.specs.declared.Verdict.{Verdict}
 use Rattle.refusal.specs.declared.Verdict.the-variants.{Accepted, Unsound}
 use Rattle.refusal.specs.Refusals.{isAccepted}
+use Rattle.refusal.proofs.VerdictLaws.{refused-never, turned-back, let-pass}
 use Rattle.cell.specs.declared.MicroParams.{MicroParams}
 use Rattle.cell.specs.Cell.{depthOf, zoomOf, shutterOf, soundOf}
 use Rattle.cell.specs.Workers.{Fit, HeldOf, beforeCell, unitOrZero}
-use Rattle.cell.proofs.JudgingLaws.{turned-back, let-pass, opened-out, opened-on, opened-fit}
+use Rattle.cell.proofs.JudgingLaws.{opened-out, opened-on, opened-fit}
 use Rattle.cell.proofs.SoundLaws.{sound-tested, unit-held}
 
 module _ (p : MicroParams) (b : List ℕ) (σ : ℕ) (v : Verdict) (judged : v ≡ beforeCell p σ (length b) Accepted) (ok : Bool) (asked : ok ≡ isAccepted v) where
   pub held-turned : not ok ≡ true → HeldOf p b σ (record { verdict = v; shutter = 0; unit = 0 })
   held-turned h = record {
     verdict-is = opened-out p σ (length b) v judged ok asked h _;
-    judged = λ e. absurd (true≢false (sym (ap isAccepted e) ∙ turned-back v ok asked h));
+    judged = λ e. absurd (refused-never v (turned-back v ok asked h) e);
   }
 
   module _ (h : not ok ≡ false) where

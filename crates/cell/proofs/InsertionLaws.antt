@@ -15,7 +15,10 @@ use Rattle.cell.specs.Cell.{pixelsOf, slotOf, pixelsIn, pixelOf, zoomOf,
 use Rattle.cell.specs.Insertion.{divideEach, zoomOutOf, creditOf, insertOf}
 use Rattle.cell.specs.Workers.{Fit}
 use Rattle.cell.proofs.SmallLaws.{Small, small-take, bounded-set}
-use Rattle.cell.proofs.CellLaws.{Kept, kept-same, kept-then, slot-inside, with-pixel-zoom, with-pixel-shutter, with-pixel-kept, with-zoom-zoom, with-zoom-shutter, with-zoom-kept, with-pixels-pixels, with-pixels-zoom, with-pixels-shutter, with-pixels-kept, with-shutter-shutter, with-shutter-zoom, with-shutter-kept}
+use Rattle.cell.proofs.CellLaws.{Kept, kept-same, kept-then, slot-inside, with-pixel-zoom, with-pixel-shutter, with-pixel-kept}
+use Rattle.cell.proofs.CellLaws.{with-zoom-zoom, with-zoom-shutter, with-zoom-kept}
+use Rattle.cell.proofs.CellLaws.{with-pixels-pixels, with-pixels-zoom, with-pixels-shutter, with-pixels-kept}
+use Rattle.cell.proofs.CellLaws.{with-shutter-shutter, with-shutter-zoom, with-shutter-kept}
 use Rattle.cell.proofs.DivideLaws.{divide-length, divide-draws, divide-state, divide-small}
 use Rattle.cell.proofs.PowerLaws.{max-zoom-limit}
 use Rattle.cell.proofs.SoundLaws.{sound-zoom, sound-unit, sound-is, sound-empty}
@@ -49,7 +52,9 @@ module _ (t c slot : ℕ) (b : List ℕ) (σ : ℕ) (fit : Fit t c (length b)) w
   quotients-length = divide-length c dividends σ ∙ dividends-length
 
   quotients-small : Small b → Small (quotients .bytes)
-  quotients-small h = divide-small c (fit .c-low) dividends σ (bounded-set 257 (pixelsIn t b) slot 256 (omega arith) (λ i. omega (arith, small-take (t + 2) b h i)))
+  quotients-small h =
+      divide-small c (fit .c-low) dividends σ
+      (bounded-set 257 (pixelsIn t b) slot 256 (omega arith) (λ i. omega (arith, small-take (t + 2) b h i)))
 
   pub zoom-out-pixels : pixelsIn t (zoomOutOf t c slot b σ .bytes) ≡ divideEach c (set (pixelsIn t b) slot 256) σ .bytes
   unfolding zoomOutOf
@@ -90,7 +95,8 @@ module _ (t c slot : ℕ) (b : List ℕ) (σ : ℕ) (fit : Fit t c (length b)) (
   pub credited : Credited t c b σ (creditOf t c slot b σ)
   unfolding creditOf stateAfter
   credited =
-      either (Credited t c b σ) (ltb (pixelOf b slot) 255) (still (withPixel slot (pixelOf b slot + 1) b) σ) (cond (ltb (zoomOf t b) (maxZoom c)) (zoomOutOf t c slot b σ) (still b σ))
+      either (Credited t c b σ) (ltb (pixelOf b slot) 255) (still (withPixel slot (pixelOf b slot + 1) b) σ)
+      (cond (ltb (zoomOf t b) (maxZoom c)) (zoomOutOf t c slot b σ) (still b σ))
       (λ e. record {
         kept = with-pixel-kept t slot (pixelOf b slot + 1) b inside (omega (arith, ltb-true (pixelOf b slot) 255 e));
         shutter = with-pixel-shutter t slot (pixelOf b slot + 1) b inside;
@@ -102,7 +108,15 @@ module _ (t c slot : ℕ) (b : List ℕ) (σ : ℕ) (fit : Fit t c (length b)) (
       })
       (λ e. either (Credited t c b σ) (ltb (zoomOf t b) (maxZoom c)) (zoomOutOf t c slot b σ) (still b σ)
       (λ e'. zoom-out-credited t c slot b σ fit (ltb-true _ _ e'))
-      (λ e'. record { kept = kept-same t b; shutter = refl; zoom-low = λ l. l; zoom-ge = omega arith; zoom-le = omega arith; state = refl; draws = omega arith }))
+      (λ e'. record {
+        kept = kept-same t b;
+        shutter = refl;
+        zoom-low = λ l. l;
+        zoom-ge = omega arith;
+        zoom-le = omega arith;
+        state = refl;
+        draws = omega arith;
+      }))
 
 -- INSERT
 pub record Inserted (t c : ℕ) (b : List ℕ) (σ : ℕ) (s : Step) : Type 0 where

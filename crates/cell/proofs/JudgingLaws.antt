@@ -5,11 +5,12 @@ use mathlib.Core.Bool.{Bool, true, false, not, _||_}
 use mathlib.Core.List.{List}
 use lib.Dec.{ltb, eqb}
 use lib.ListN.{length}
-use borrow.Author.Tests.{lt-ltb, eq-eqb, ne-eqb, eqb-true, not-true, not-false}
+use borrow.Author.Tests.{lt-ltb, eq-eqb, ne-eqb, eqb-true, not-false}
 use Rattle.refusal.specs.declared.Verdict.{Verdict}
 use Rattle.refusal.specs.declared.Verdict.the-variants.{Accepted, Refused}
-use Rattle.refusal.specs.Refusals.{isAccepted, refuse, outside, whenAccepted}
-use Rattle.refusal.proofs.VerdictLaws.{accepted-is, refused-leaves, not-refused, inside-range, range-inside}
+use Rattle.refusal.specs.Refusals.{isAccepted, refuse, outside}
+use Rattle.refusal.proofs.VerdictLaws.{turned-back, let-pass, refuse-then, not-refused, inside-range, range-inside}
+use Rattle.refusal.proofs.GateLaws.{Gate, gate-chain, gate-open, gate-shut}
 use Rattle.cell.specs.declared.MicroParams.{MicroParams}
 use Rattle.cell.specs.Cell.{pixelsOf, depthOf}
 use Rattle.cell.specs.Refusals.{refuseParams, paramsVerdict, crossVerdict, mergeVerdict}
@@ -30,38 +31,31 @@ module _ (k low high x : ℕ) (rest : Verdict) where
   pub range-passed : (v : Verdict) → low ≤ x → x ≤ high → v ≡ rest → v ≡ refuse k (outside low high x) rest
   range-passed v l h e = rw (range-inside low high x l h) e
 
--- a verdict that was asked whether it accepts
-module _ (v : Verdict) (ok : Bool) (asked : ok ≡ isAccepted v) where
-  pub turned-back : not ok ≡ true → isAccepted v ≡ false
-  turned-back h = sym asked ∙ not-true ok h
-
-  pub let-pass : not ok ≡ false → v ≡ Accepted
-  let-pass h = accepted-is v (sym asked ∙ not-false ok h)
-
 -- 1, 2, and then the rest
-two-causes : (x y : Bool) (rest : Verdict) → refuse 1 x (refuse 2 y rest) ≡ whenAccepted (refuse 1 x (refuse 2 y Accepted)) rest (refuse 1 x (refuse 2 y Accepted))
-two-causes true y rest = refl
-two-causes false true rest = refl
-two-causes false false rest = refl
+params-gate : (p : MicroParams) → Gate (refuseParams p)
+params-gate p =
+    let t = outside 1 4096 (p .t) in
+    let c = outside 2 256 (p .c) in
+    gate-chain (refuse 1 t) (refuse 2 c) (refuse-then 1 t) (refuse-then 2 c)
 
 -- where the settings were judged
 module _ (p : MicroParams) (v : Verdict) (judged : v ≡ paramsVerdict p) where
-  settled : (rest : Verdict) → refuseParams p rest ≡ whenAccepted v rest v
-  settled rest = rw judged (two-causes (outside 1 4096 (p .t)) (outside 2 256 (p .c)) rest)
-
   module _ (ok : Bool) (asked : ok ≡ isAccepted v) where
     settled-out : not ok ≡ true → (rest : Verdict) → v ≡ refuseParams p rest
-    settled-out h rest = sym (settled rest ∙ refused-leaves v rest v (turned-back v ok asked h))
+    settled-out h rest = sym (gate-shut (refuseParams p) (params-gate p) rest v judged (turned-back v ok asked h))
 
     module _ (h : not ok ≡ false) where
       settled-on : (rest : Verdict) → refuseParams p rest ≡ rest
-      settled-on rest = settled rest ∙ rw (let-pass v ok asked h) refl
+      settled-on rest = gate-open (refuseParams p) (params-gate p) rest (sym judged ∙ let-pass v ok asked h)
+
+      not-one : (outside 1 4096 (p .t) ≡ false) × (refuse 2 (outside 2 256 (p .c)) Accepted ≡ Accepted)
+      not-one = not-refused 1 (outside 1 4096 (p .t)) _ (sym judged ∙ let-pass v ok asked h)
 
       pub settled-t : (1 ≤ p .t) × (p .t ≤ 4096)
-      settled-t = inside-range 1 4096 (p .t) (not-refused 1 (outside 1 4096 (p .t)) _ (sym judged ∙ let-pass v ok asked h) .0)
+      settled-t = inside-range 1 4096 (p .t) (not-one .0)
 
       pub settled-c : (2 ≤ p .c) × (p .c ≤ 256)
-      settled-c = inside-range 2 256 (p .c) (not-refused 2 (outside 2 256 (p .c)) Accepted (not-refused 1 (outside 1 4096 (p .t)) _ (sym judged ∙ let-pass v ok asked h) .1) .0)
+      settled-c = inside-range 2 256 (p .c) (not-refused 2 (outside 2 256 (p .c)) Accepted (not-one .1) .0)
 
     -- BEFORE A CELL
     module _ (σ size : ℕ) where
@@ -85,26 +79,21 @@ module _ (p : MicroParams) (v : Verdict) (judged : v ≡ paramsVerdict p) where
           before-none q = sym (settled-on h _ ∙ simp (ne-eqb _ _ n, eq-eqb _ _ (q ∙ e)))
 
 -- 1, 2, 5, 6, and then the rest
-four-causes : (w x y z : Bool) (rest : Verdict)
-    → refuse 1 w (refuse 2 x (refuse 5 y (refuse 6 z rest)))
-    ≡ whenAccepted (refuse 1 w (refuse 2 x (refuse 5 y (refuse 6 z Accepted)))) rest (refuse 1 w (refuse 2 x (refuse 5 y (refuse 6 z Accepted))))
-four-causes true x y z rest = refl
-four-causes false true y z rest = refl
-four-causes false false true z rest = refl
-four-causes false false false true rest = refl
-four-causes false false false false rest = refl
+before-gate : (p : MicroParams) (σ size : ℕ) → Gate (beforeCell p σ size)
+before-gate p σ size =
+    let state = eqb σ 0 in
+    let depth = not (eqb size (depthOf (p .t))) in
+    gate-chain (refuseParams p) (λ rest. refuse 5 state (refuse 6 depth rest)) (params-gate p)
+    (gate-chain (refuse 5 state) (refuse 6 depth) (refuse-then 5 state) (refuse-then 6 depth))
 
 -- where all was judged that is told before a cell
 module _ (p : MicroParams) (σ size : ℕ) (v : Verdict) (judged : v ≡ beforeCell p σ size Accepted) (ok : Bool) (asked : ok ≡ isAccepted v) where
-  opened : (rest : Verdict) → beforeCell p σ size rest ≡ whenAccepted v rest v
-  opened rest = rw judged (four-causes (outside 1 4096 (p .t)) (outside 2 256 (p .c)) (eqb σ 0) (not (eqb size (depthOf (p .t)))) rest)
-
   pub opened-out : not ok ≡ true → (rest : Verdict) → v ≡ beforeCell p σ size rest
-  opened-out h rest = sym (opened rest ∙ refused-leaves v rest v (turned-back v ok asked h))
+  opened-out h rest = sym (gate-shut (beforeCell p σ size) (before-gate p σ size) rest v judged (turned-back v ok asked h))
 
   module _ (h : not ok ≡ false) where
     pub opened-on : (rest : Verdict) → beforeCell p σ size rest ≡ rest
-    opened-on rest = opened rest ∙ rw (let-pass v ok asked h) refl
+    opened-on rest = gate-open (beforeCell p σ size) (before-gate p σ size) rest (sym judged ∙ let-pass v ok asked h)
 
     pub opened-fit : Fit (p .t) (p .c) size
     opened-fit =

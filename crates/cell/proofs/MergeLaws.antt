@@ -14,7 +14,8 @@ use Rattle.cell.specs.Cell.{pixelsOf, depthOf, slotOf, pixelsIn, zoomOf,
 use Rattle.cell.specs.Merge.{addEach, Settled, settleOf, withCarry, mergeOf, sumsOf}
 use Rattle.cell.specs.Workers.{Fit}
 use Rattle.cell.proofs.SmallLaws.{Small, small-take, bounded-set}
-use Rattle.cell.proofs.CellLaws.{Kept, kept-same, kept-then, with-zoom-zoom, with-zoom-kept, with-pixels-kept, with-shutter-shutter, with-shutter-zoom, with-shutter-kept}
+use Rattle.cell.proofs.CellLaws.{Kept, kept-same, kept-then, with-zoom-zoom, with-zoom-kept, with-pixels-kept}
+use Rattle.cell.proofs.CellLaws.{with-shutter-shutter, with-shutter-zoom, with-shutter-kept}
 use Rattle.cell.proofs.PowerLaws.{max-zoom-limit, zoom-fits}
 use Rattle.cell.proofs.SoundLaws.{sound-zoom, sound-shutter, sound-is}
 use Rattle.cell.proofs.SumsLaws.{after-then, add-draws, add-state, add-length, add-sums, most-at, Settles, settles}
@@ -55,15 +56,23 @@ pub record Merged (t c : ℕ) (b : List ℕ) (σ : ℕ) (s : Step) : Type 0 wher
   pub state : s .state ≡ stateAfter (s .draws) σ
   pub draws : s .draws ≤ pixelsOf t * maxZoom c
 
-module _ (t c n : ℕ) (b src : List ℕ) (σ : ℕ) (fit : Fit t c (length b)) (fit' : Fit t c (length src)) (sound : soundOf t c b ≡ true) (sound' : soundOf t c src ≡ true) where
+module _ (t c n : ℕ) (b src : List ℕ) (σ : ℕ) (fit : Fit t c (length b)) (fit' : Fit t c (length src))
+    (sound : soundOf t c b ≡ true) (sound' : soundOf t c src ≡ true) where
   abbrev target : ℕ
   target = max (zoomOf t b) (zoomOf t src)
 
   abbrev shutters : ℕ
   shutters = shutterOf t b + shutterOf t src
 
+  -- the levels that each cell lacks
+  abbrev down : ℕ
+  down = target - zoomOf t b
+
+  abbrev down' : ℕ
+  down' = target - zoomOf t src
+
   abbrev added : Step
-  added = addEach c (target - zoomOf t b) (target - zoomOf t src) (pixelsIn t b) (pixelsIn t src) σ
+  added = addEach c down down' (pixelsIn t b) (pixelsIn t src) σ
 
   abbrev carried : List ℕ
   carried = withCarry (slotOf t n) (shutters / c ^ target) (added .bytes)
@@ -80,16 +89,20 @@ module _ (t c n : ℕ) (b src : List ℕ) (σ : ℕ) (fit : Fit t c (length b)) 
   carried-length : length carried ≡ pixelsOf t
   carried-length =
       length-set (added .bytes) (slotOf t n) _
-      ∙ add-length c (target - zoomOf t b) (target - zoomOf t src) (pixelsIn t b) (pixelsIn t src) σ (pixels-length src (fit' .size-is) ∙ sym (pixels-length b (fit .size-is)))
+      ∙ add-length c down down' (pixelsIn t b) (pixelsIn t src) σ (pixels-length src (fit' .size-is) ∙ sym (pixels-length b (fit .size-is)))
       ∙ pixels-length b (fit .size-is)
 
   -- two pixels of 255, and the carry
   pub merge-sums : Small b → Small src → (i : ℕ) → getD carried i 0 ≤ 511
   merge-sums small small' i =
-      let sums : (j : ℕ) → getD (added .bytes) j 0 ≤ 510 = add-sums c (target - zoomOf t b) (target - zoomOf t src) (pixelsIn t b) (pixelsIn t src) σ (fit .c-low)
-      (λ j. omega (arith, small-take (pixelsOf t) b small j)) (λ j. omega (arith, small-take (pixelsOf t) src small' j)) in
+      let sums : (j : ℕ) → getD (added .bytes) j 0 ≤ 510 =
+      add-sums c down down' (pixelsIn t b) (pixelsIn t src) σ (fit .c-low) (λ j. omega (arith, small-take (pixelsOf t) b small j))
+      (λ j. omega (arith, small-take (pixelsOf t) src small' j))
+      in
       let carry : shutters / c ^ target ≤ 1 = carry-le t c b src sound sound' (fit .c-low) target refl (c ^ target) shutters refl refl in
-      omega (arith, bounded-set 512 (added .bytes) (slotOf t n) (getD (added .bytes) (slotOf t n) 0 + shutters / c ^ target) (omega (arith, sums (slotOf t n))) (λ j. omega (arith, sums j)) i)
+      let slot = slotOf t n in
+      let credited = getD (added .bytes) slot 0 + shutters / c ^ target in
+      omega (arith, bounded-set 512 (added .bytes) slot credited (omega (arith, sums slot)) (λ j. omega (arith, sums j)) i)
 
   ends : Settles (maxZoom c - target) target carried (added .state) settled
   ends = settles c (maxZoom c - target) target carried (added .state)
@@ -128,13 +141,16 @@ module _ (t c n : ℕ) (b src : List ℕ) (σ : ℕ) (fit : Fit t c (length b)) 
       let positive : 0 < c = omega (arith, fit .c-low) in
       let fits : c ^ target ≤ 2 ^ 32 - 1 = zoom-fits c (fit .c-low) target low in
       sound-is t c (withShutter t rest raised) (rw merged-zoom zoom-low)
-      (rw (merged-zoom, with-shutter-shutter t rest raised raised-size (omega (arith, rest-low))) (lt-of-lt-of-le rest-low (pow-le-pow-right positive (ends .zoom-ge))))
+      (rw (merged-zoom, with-shutter-shutter t rest raised raised-size (omega (arith, rest-low)))
+      (lt-of-lt-of-le rest-low (pow-le-pow-right positive (ends .zoom-ge))))
 
   -- a pixel is divided once for each level that its cell lacks, and its sum once for each raise: no more than max_zoom in all
   few : added .draws + settled .sums .draws ≤ pixelsOf t * maxZoom c
   few =
-      let levels : ℕ = target - zoomOf t b + (target - zoomOf t src) in
-      let a : added .draws ≤ pixelsOf t * levels = rw (pixels-length b (fit .size-is)) at (add-draws c (target - zoomOf t b) (target - zoomOf t src) (pixelsIn t b) (pixelsIn t src) σ) in
+      let levels : ℕ = down + down' in
+      let a : added .draws ≤ pixelsOf t * levels =
+      rw (pixels-length b (fit .size-is)) at (add-draws c down down' (pixelsIn t b) (pixelsIn t src) σ)
+      in
       let d : settled .sums .draws ≤ pixelsOf t * (maxZoom c - target) = rw (carried-length, mul-comm (maxZoom c - target) (pixelsOf t)) at (ends .draws) in
       let m : pixelsOf t * (levels + (maxZoom c - target)) ≤ pixelsOf t * maxZoom c = mul-le-mul-left (pixelsOf t) (omega (arith, low)) in
       omega (arith, mul-add (pixelsOf t) levels (maxZoom c - target))
@@ -145,6 +161,6 @@ module _ (t c n : ℕ) (b src : List ℕ) (σ : ℕ) (fit : Fit t c (length b)) 
     kept = kept-then t b raised _ raised-kept (with-shutter-kept t rest raised raised-size);
     sound = merged-sound;
     zoom-ge = rw merged-zoom (omega (arith, ends .zoom-ge));
-    state = ends .state ∙ after-then (added .draws) _ σ (added .state) (add-state c (target - zoomOf t b) (target - zoomOf t src) (pixelsIn t b) (pixelsIn t src) σ);
+    state = ends .state ∙ after-then (added .draws) _ σ (added .state) (add-state c down down' (pixelsIn t b) (pixelsIn t src) σ);
     draws = few;
   }

@@ -85,7 +85,8 @@ module _ (c down down' : ℕ) where
   add-length (x ∷ xs) [] σ e = absurd (omega arith)
   add-length (x ∷ xs) (y ∷ ys) σ e = ap suc (add-length xs ys _ (omega arith))
 
-  pub add-sums : (xs ys : List ℕ) (σ : ℕ) → 2 ≤ c → ((i : ℕ) → getD xs i 0 ≤ 255) → ((i : ℕ) → getD ys i 0 ≤ 255) → (i : ℕ) → getD (addEach c down down' xs ys σ .bytes) i 0 ≤ 510
+  pub add-sums : (xs ys : List ℕ) (σ : ℕ) → 2 ≤ c → ((i : ℕ) → getD xs i 0 ≤ 255) → ((i : ℕ) → getD ys i 0 ≤ 255)
+      → (i : ℕ) → getD (addEach c down down' xs ys σ .bytes) i 0 ≤ 510
   unfolding addEach
   add-sums [] ys σ base hx hy i = omega arith
   add-sums (x ∷ xs) [] σ base hx hy i = omega arith

@@ -11,7 +11,7 @@ use borrow.Author.Tests.{lt-ltb, le-ltb, ltb-true, ltb-false}
 use Rattle.refusal.specs.declared.Verdict.{Verdict}
 use Rattle.refusal.specs.declared.Verdict.the-variants.{Accepted}
 use Rattle.refusal.specs.Refusals.{isAccepted, refuse}
-use Rattle.refusal.proofs.VerdictLaws.{not-refused}
+use Rattle.refusal.proofs.VerdictLaws.{refused-never, turned-back, let-pass, not-refused}
 use Rattle.rounding.specs.declared.Rounding.{Rounding}
 use Rattle.cell.specs.declared.MicroParams.{MicroParams}
 use Rattle.cell.specs.declared.CellAnswer.{CellAnswer}
@@ -22,8 +22,8 @@ use Rattle.cell.specs.Crossing.{crossOf}
 use Rattle.cell.specs.Refusals.{cellOutcome, crossCall}
 use Rattle.cell.specs.Workers.{Judged, HeldOf, beforeCell, turnedBack, doneWith, stepOf}
 use Rattle.cell_crossing.specs.Workers.{CrossingHeld}
-use Rattle.cell.proofs.JudgingLaws.{turned-back, let-pass, opened-out, opened-on, opened-fit}
-use Rattle.cell.proofs.CallLaws.{refused-never, call-turned, call-done}
+use Rattle.cell.proofs.JudgingLaws.{opened-out, opened-on, opened-fit}
+use Rattle.cell.proofs.CallLaws.{call-turned, call-done}
 
 -- 9
 pub nine-none : (t n crossed : ℕ) → crossed ≡ 0 → false ≡ (ltb 0 crossed && ltb crossed (pixelsOf t) && ltb n crossed)

@@ -4,6 +4,7 @@ use mathlib.Core.Path.{_≡_}
 use mathlib.Core.Bool.{Bool, true, false, not}
 use mathlib.Core.List.{List}
 use Rattle.refusal.specs.Refusals.{isAccepted}
+use Rattle.refusal.proofs.VerdictLaws.{let-pass}
 use Rattle.rounding.specs.declared.Rounding.{Rounding}
 use Rattle.cell.specs.declared.MicroParams.{MicroParams}
 use Rattle.cell.specs.declared.CellAnswer.{CellAnswer}
@@ -12,7 +13,6 @@ use Rattle.cell.specs.declared.Held.{Held}
 use Rattle.cell.specs.Insertion.{insertOf}
 use Rattle.cell.specs.Refusals.{cellOutcome, insertCall}
 use Rattle.cell.specs.Workers.{Judged, HeldOf, turnedBack, doneWith, stepOf}
-use Rattle.cell.proofs.JudgingLaws.{let-pass}
 use Rattle.cell.proofs.CallLaws.{call-turned, call-done}
 
 module _ (p : MicroParams) (n : ℕ) (b : List ℕ) (ρ : Rounding) (r : Held) (held : HeldOf p b (ρ .state) r)

@@ -8,6 +8,7 @@ use borrow.Author.Tests.{eq-eqb, ne-eqb, not-true, not-false}
 use Rattle.refusal.specs.declared.Verdict.{Verdict}
 use Rattle.refusal.specs.declared.Verdict.the-variants.{Accepted, Refused, Unsound}
 use Rattle.refusal.specs.Refusals.{isAccepted}
+use Rattle.refusal.proofs.VerdictLaws.{refused-never, turned-back, let-pass}
 use Rattle.rounding.specs.declared.Rounding.{Rounding}
 use Rattle.cell.specs.declared.MicroParams.{MicroParams}
 use Rattle.cell.specs.declared.CellAnswer.{CellAnswer}
@@ -17,8 +18,8 @@ use Rattle.cell.specs.Merge.{mergeOf}
 use Rattle.cell.specs.Refusals.{refuseDepth, refuseUnsound, mergeVerdict, cellOutcome, mergeCall}
 use Rattle.cell.specs.Workers.{Fit, beforeCell, turnedBack, doneWith, stepOf}
 use Rattle.cell_merging.specs.Workers.{Pair, PairJudged}
-use Rattle.cell.proofs.JudgingLaws.{turned-back, let-pass, opened-out, opened-on, opened-fit}
-use Rattle.cell.proofs.CallLaws.{refused-never, call-turned, call-done}
+use Rattle.cell.proofs.JudgingLaws.{opened-out, opened-on, opened-fit}
+use Rattle.cell.proofs.CallLaws.{call-turned, call-done}
 
 -- JUDGED
 module _ (p : MicroParams) (b src : List ℕ) (σ : ℕ) (v : Verdict) (judged : v ≡ beforeCell p σ (length b) Accepted)

@@ -14,13 +14,12 @@ use Rattle.laws.proofs.FigureLaws.{castable, zero-is}
 use Rattle.refusal.specs.declared.Verdict.{Verdict}
 use Rattle.refusal.specs.declared.Verdict.the-variants.{Accepted}
 use Rattle.refusal.specs.Refusals.{isAccepted}
-use Rattle.refusal.proofs.VerdictLaws.{refused-leaves, not-refused, inside-range}
+use Rattle.refusal.proofs.VerdictLaws.{refused-leaves, not-refused, inside-range, turned-back, let-pass}
 use Rattle.cell.specs.declared.MicroParams.{MicroParams}
 use Rattle.cell.specs.declared.Held.{Held}
 use Rattle.cell.specs.Cell.{depthOf, slotOf, pixelOf, zoomOf, shutterOf, unitOf, maxZoom}
 use Rattle.cell.specs.Refusals.{maxZoomVerdict, maxZoomCall, zoomCall, shutterCall, pixelCall}
 use Rattle.cell.specs.Workers.{Judged, HeldOf}
-use Rattle.cell.proofs.JudgingLaws.{turned-back, let-pass}
 use Rattle.cell.proofs.CellLaws.{slot-read}
 use Rattle.cell.proofs.SoundLaws.{sound-unit}
 

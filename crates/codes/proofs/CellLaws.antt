@@ -9,6 +9,7 @@ use native.Mathlib.Decide.{ℕ-discrete}
 use lib.ListN.{length, getD}
 use Rattle.refusal.specs.declared.Verdict.{Verdict}
 use Rattle.refusal.specs.declared.Verdict.the-variants.{Accepted, Unsound}
+use Rattle.refusal.proofs.VerdictLaws.{refused-never}
 use Rattle.cell.specs.Cell.{soundOf}
 use Rattle.sketch.specs.declared.MicroCm.{MicroCm}
 use Rattle.sketch.specs.Sketch.{cellIndex, cellOf, keyCells, countFrom}
@@ -139,12 +140,9 @@ module _ (k : MicroCm) (g : List ℕ) where
         by i l h (yes same) = rw same here
         by i l h (no other) = w .earlier i (omega arith) h
 
-    never : (j : ℕ) → Accepted ≡ Unsound j → ⊥
-    never j e = let z : _≡_ {A = ℕ} 0 1 = cc in omega arith
-
     pub those-named : (count first j : ℕ) → refuseUnsound k g (cellsFrom first count) Accepted ≡ Unsound j → FirstOfThose first (first + count) j
     unfolding those countFrom firstUnsound
-    those-named zero first j e = absurd (never j e)
+    those-named zero first j e = absurd (refused-never (Unsound j) refl (sym e))
     those-named (suc count) first j e = by (isIn first list) refl (soundAt first) refl (those-named count (suc first) j) e
       where
         rest : Verdict

@@ -12,29 +12,12 @@ use native.Mathlib.Decide.{decLt}
 use borrow.Author.Tests.{eqb-true, eq-eqb}
 use Rattle.laws.specs.Parts.{part}
 use Rattle.laws.proofs.PartLaws.{part-at}
+pub use Rattle.laws.proofs.SmallLaws.{Small, small-append, small-take, small-drop}
 use Rattle.store_blocks.specs.Blocks.{filled, allZero}
-
--- bytes
-abbrev pub Small : List ℕ → Type 0
-Small l = (i : ℕ) → getD l i 0 < 256
 
 -- the same up to zeros behind them
 abbrev pub Alike : List ℕ → List ℕ → Type 0
 Alike l m = (i : ℕ) → getD l i 0 ≡ getD m i 0
-
-pub small-append : (l m : List ℕ) → Small l → Small m → Small (l ++ m)
-small-append [] m sl sm i = sm i
-small-append (x ∷ xs) m sl sm zero = sl 0
-small-append (x ∷ xs) m sl sm (suc i) = small-append xs m (λ j. sl (suc j)) sm i
-
-pub small-take : (n : ℕ) (l : List ℕ) → Small l → Small (take n l)
-small-take zero l s i = omega arith
-small-take (suc n) [] s i = omega arith
-small-take (suc n) (x ∷ xs) s zero = s 0
-small-take (suc n) (x ∷ xs) s (suc i) = small-take n xs (λ j. s (suc j)) i
-
-pub small-drop : (n : ℕ) (l : List ℕ) → Small l → Small (drop n l)
-small-drop n l s i = rw (getD-drop n l i 0) (s (n + i))
 
 pub alike-take : (n : ℕ) (l m : List ℕ) → Alike l m → Alike (take n l) (take n m)
 alike-take n l m a i = by (decLt i n)
