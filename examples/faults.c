@@ -14,7 +14,7 @@
 
 /* The last five minutes, by sub-windows of a minute; time stamps are in seconds. */
 enum { ROWS = 4, COLS = 64, T = 5, C = 2, MINUTE = 60 };
-enum { DEPTH = (T + 7 + 3) / 4 * 4, GRID_BYTES = ROWS * COLS * DEPTH };
+enum { DEPTH = MICROSCOPE_DEPTH(T), GRID_BYTES = ROWS * COLS * DEPTH };
 enum { STORE_BYTES = 512 * (1 + (GRID_BYTES + 503) / 504) };
 enum { EPOCH = 1000, SEED = 2023 };
 

@@ -362,6 +362,9 @@ microscope_asked microscope_ask(microscope_sketch sketch, microscope_watch watch
 /* How many bytes a cell takes: t + 7, rounded up to a multiple of 4. */
 microscope_number microscope_depth(size_t t, uint32_t c);
 
+/* The same as a constant, for the size of an array. It judges no t: only the call refuses one that no sketch has. */
+#define MICROSCOPE_DEPTH(t) (((t) + 7 + 3) / 4 * 4)
+
 /* The largest zoom z of a base: c^z is at most 2^32 - 1. */
 microscope_number microscope_base_max_zoom(uint32_t c);
 

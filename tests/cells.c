@@ -3,7 +3,8 @@
  * beside each edge what is accepted. cells.out has what this must print.
  *
  * The calls on settings alone are not here: of what they answer the library gives only the depth and the highest zoom.
- * The worked examples in crates/cell/proofs/SettingsExamples.antt have it whole.
+ * The worked examples in crates/cell/proofs/SettingsExamples.antt have it whole. But the header's own depth is held to the
+ * library's, and a line comes only if the two differ.
  *
  * A cell of t = 1 is written as its eight bytes: three pixels, the zoom, the four bytes of the shutter.
  */
@@ -25,7 +26,7 @@ struct bytes {
 #define UNSOUND_AND_LONG CELL(5, 0, 0, 32, 0, 0, 0, 0, 0)
 
 /* A cell of more bytes is told by its sum. The most bytes are those of the largest cell, and one. */
-enum { SHOWN = 12, ROOM = 4105 };
+enum { SHOWN = 12, ROOM = MICROSCOPE_DEPTH(4096) + 1 };
 
 /* ---- what is told of a call ---- */
 
@@ -306,6 +307,25 @@ static void largest(void) {
     merge(4096, 2, 4097, 1, cell, shorter);
 }
 
+/* The first t of which MICROSCOPE_DEPTH is not what the call gives, 0 if there is none. */
+static size_t other_depth(void) {
+    for (size_t t = 1; t <= 4096; t++) {
+        if (microscope_depth(t, 2).value != MICROSCOPE_DEPTH(t)) {
+            return t;
+        }
+    }
+    return 0;
+}
+
+static void depths(void) {
+    size_t t = other_depth();
+    if (t != 0) {
+        printf("depth of t %zu: %zu by the header", t, MICROSCOPE_DEPTH(t));
+        tell_number(", by the call ", microscope_depth(t, 2));
+        printf("\n");
+    }
+}
+
 int main(void) {
     printf("a cell by its bytes: pixels, zoom, four of shutter, pad; a long one by the sum of byte i times i + 1; "
            "scaled_pixel by its bits\n");
@@ -319,5 +339,6 @@ int main(void) {
     merges();
     two_causes();
     largest();
+    depths();
     return 0;
 }

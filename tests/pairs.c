@@ -64,12 +64,15 @@ struct lent {
     uint64_t kept_limits[MICROSCOPE_MOST_CODES];
 };
 
-/* The zoom of a cell, 1 + its index (0: none), is made one that no cell has, if it stands in these bytes. */
+/*
+ * The zoom of a cell, 1 + its index (0: none), is made one that no cell has, if it stands in these bytes. The depth is the
+ * header's, as t may be one that the call refuses.
+ */
 static void spoil(uint8_t *grid, uint64_t size, uint64_t cell, uint64_t t) {
     if (cell == 0 || cell > ROOM || t > ROOM) {
         return;
     }
-    uint64_t zoom = (cell - 1) * depth_of(t) + t + 2;
+    uint64_t zoom = (cell - 1) * MICROSCOPE_DEPTH(t) + zoom_at(t);
     if (zoom < size) {
         grid[zoom] = UNSOUND;
     }

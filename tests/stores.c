@@ -61,15 +61,15 @@ static uint8_t random_byte(uint64_t run, size_t place) {
 
 /* A byte of a sound cell: pixels and pad bytes of any value; zoom and shutter 0, or both 1 in every other cell. */
 static uint8_t cell_byte(size_t t, size_t index, size_t place, uint8_t any) {
-    if (place < t + 2 || t + 7 <= place) {
+    if (place < zoom_at(t) || shutter_at(t) + 4 <= place) {
         return any;
     }
-    return place < t + 4 && index % 2 == 1;
+    return place <= shutter_at(t) && index % 2 == 1;
 }
 
 /* A grid of sound cells, another for each run. */
 static void fill(uint8_t *grid, size_t size, size_t t, uint64_t run) {
-    size_t depth = depth_of(t);
+    size_t depth = microscope_depth(t, 2).value;
     for (size_t i = 0; i < size; i++) {
         grid[i] = cell_byte(t, i / depth, i % depth, random_byte(run, i));
     }
@@ -207,6 +207,7 @@ static void shaped(size_t rows, size_t cols, size_t t, uint32_t c, size_t size) 
     printf("%" PRIu64 " the same, %" PRIu64 " otherwise\n", tally.right, tally.other);
 }
 
+/* The bytes of each grid are written out, by document 01's depths: the library has to agree. */
 static void trips(void) {
     shaped(1, 2, 1, 2, 16);
     shaped(63, 2, 1, 3, 1008);

@@ -37,9 +37,14 @@ static inline uint64_t weighed(const uint8_t *bytes, size_t count) {
     return sum;
 }
 
-/* The bytes of a cell by document 01's words: t + 7, rounded up to a multiple of 4. */
-static inline size_t depth_of(size_t t) {
-    return (t + 10) / 4 * 4;
+/* Where a cell has its zoom: behind its pixels. */
+static inline size_t zoom_at(size_t t) {
+    return t + 2;
+}
+
+/* Where it has the four bytes of its shutter. */
+static inline size_t shutter_at(size_t t) {
+    return zoom_at(t) + 1;
 }
 
 #endif

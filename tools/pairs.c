@@ -231,6 +231,8 @@ static struct trial good(enum call call, struct sketch sketch)
 }
 
 // WHAT FOLLOWS FROM A SKETCH
+
+// Document 01's depth, here once more: the library is held to its words, so nothing is asked of the library.
 static uint64_t depth_of(const struct sketch *s)
 {
     return (s->t + 7 + 3) / 4 * 4;
