@@ -1,5 +1,6 @@
 //! Demand 3 through the wrapper: Over beside exact counts, within the band by the M that a caller can keep.
 
+use crate::beside::zoom_at;
 use crate::choose::Dice;
 use crate::judge::{self, Settings};
 use crate::pair::make;
@@ -26,7 +27,7 @@ const MOST_ITEMS: u64 = 800;
 /// shutter closed at a crossing. The crossing in the same call may zoom in again, so the zoom after it does not tell.
 fn zoom_to_come(ours: &MicroCm, cell: &[u8]) -> u8 {
     let MicroParams { t, c } = ours.params();
-    let zoom = cell[t + 2];
+    let zoom = cell[zoom_at(t)];
     let full = cell[ours.sub_window() as usize % (t + 2)] == 255;
     (zoom + full as u8).min(judge::max_zoom(c as u16))
 }

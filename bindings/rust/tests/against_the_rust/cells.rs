@@ -1,7 +1,9 @@
 //! The calls on one cell beside the Rust's, and with cells and numbers that are to be refused.
 
+use crate::beside::{shutter_at, zoom_at};
 use crate::choose::Dice;
 use crate::judge;
+use crate::layout;
 use crate::numbers::{self, Causes};
 use crate::score::{Outcome, called, same, same_bytes, same_number};
 use microscope::calls::{self, Drawn};
@@ -14,13 +16,17 @@ struct Told {
     state: u64,
 }
 
+fn cell(dice: &mut Dice, t: u16, c: u16) -> Vec<u8> {
+    layout::from_theirs(t, dice.cell(t, c))
+}
+
 impl Told {
     fn new(dice: &mut Dice) -> Self {
         let (t, c) = (dice.sub_windows(), dice.base());
         Self {
             t: t as usize,
             c: c as u32,
-            cell: dice.cell(t, c),
+            cell: cell(dice, t, c),
             state: dice.state(),
         }
     }
@@ -28,14 +34,18 @@ impl Told {
     fn small(&self) -> (u16, u16) {
         (self.t as u16, self.c as u16)
     }
+
+    fn theirs(&self) -> Vec<u8> {
+        layout::to_theirs(self.t, &self.cell)
+    }
 }
 
 fn spoil_cell(dice: &mut Dice, t: usize, cell: &mut Vec<u8>) {
     match dice.below(4) {
         0 => cell.push(0),
         1 => drop(cell.pop()),
-        2 => cell[t + 2] = dice.one_of(&[32, 255]),
-        _ => cell[t + 3..t + 7].fill(255),
+        2 => cell[zoom_at(t)] = dice.one_of(&[32, 255]),
+        _ => cell[shutter_at(t)].fill(255),
     }
 }
 
@@ -48,7 +58,7 @@ fn spoil(dice: &mut Dice, told: &mut Told) {
     }
 }
 
-/// A cell after a call: as the Rust left it, or if refused as it was.
+/// A cell after a call: as the Rust left it, with its own pads, or if refused as it was.
 fn left(
     answer: Drawn,
     causes: Causes,
@@ -59,15 +69,16 @@ fn left(
     let right = numbers::first(&causes);
     same_number("number", answer.number, right)?;
     same("index", answer.index, 0)?;
-    let (cell, state, draws) = if right == 0 {
-        let (t, c) = told.small();
-        let after = call(t, c);
-        (after.cell, after.state, after.draws)
-    } else {
-        (told.cell.clone(), told.state, 0)
-    };
-    same("state and draws", (answer.state, answer.draws), (state, draws))?;
-    same_bytes("the cell", bytes, &cell)
+    let drawn = (answer.state, answer.draws);
+    if right != 0 {
+        same("state and draws of a refusal", drawn, (told.state, 0))?;
+        return same_bytes("the cell of a refusal", bytes, &told.cell);
+    }
+    let (t, c) = told.small();
+    let after = call(t, c);
+    same("state and draws", drawn, (after.state, after.draws))?;
+    layout::same_cells("the cell", told.t, bytes, &after.cell)?;
+    layout::same_pads(told.t, bytes, &told.cell)
 }
 
 fn insert(told: &Told, n: u64) -> Outcome {
@@ -75,7 +86,7 @@ fn insert(told: &Told, n: u64) -> Outcome {
     let answer = called(calls::cell_insert(&mut bytes, told.t, told.c, n, told.state));
     let causes = numbers::change(told.t, told.c, told.state, None, &[&told.cell]);
     left(answer, causes, &bytes, told, |t, c| {
-        judge::insert(t, c, n, told.state, &told.cell)
+        judge::insert(t, c, n, told.state, &told.theirs())
     })
 }
 
@@ -91,12 +102,12 @@ fn enter(dice: &mut Dice, told: &Told, n: u64) -> Outcome {
     ));
     let causes = numbers::change(told.t, told.c, told.state, Some((n, crossed)), &[&told.cell]);
     left(answer, causes, &bytes, told, |t, c| {
-        judge::enter(t, c, n, crossed, told.state, &told.cell)
+        judge::enter(t, c, n, crossed, told.state, &told.theirs())
     })
 }
 
 fn merge(dice: &mut Dice, told: &Told, n: u64, mut src: Vec<u8>) -> Outcome {
-    if dice.chance(10) && told.t <= 4096 && src.len() >= told.t + 7 {
+    if dice.chance(10) && told.t <= 4096 && src.len() >= shutter_at(told.t).end {
         spoil_cell(dice, told.t, &mut src);
     }
     let kept = src.clone();
@@ -105,7 +116,7 @@ fn merge(dice: &mut Dice, told: &Told, n: u64, mut src: Vec<u8>) -> Outcome {
     let causes = numbers::change(told.t, told.c, told.state, None, &[&told.cell, &src]);
     same_bytes("the cell merged from", &src, &kept)?;
     left(answer, causes, &bytes, told, |t, c| {
-        judge::merge(t, c, n, told.state, &told.cell, &src)
+        judge::merge(t, c, n, told.state, &told.theirs(), &layout::to_theirs(told.t, &src))
     })
 }
 
@@ -123,7 +134,7 @@ fn fields(told: &Told, n: u64) -> Outcome {
         return same("refused values", values, (0, 0, 0));
     }
     let (small_t, small_c) = told.small();
-    let (z, s, items) = judge::fields(small_t, small_c, n, cell);
+    let (z, s, items) = judge::fields(small_t, small_c, n, &told.theirs());
     same("zoom, shutter and pixel", values, (z as u64, s as u64, items))
 }
 
@@ -131,7 +142,7 @@ fn settings(told: &Told) -> Outcome {
     let depth = called(calls::depth(told.t, told.c));
     let right = numbers::first(&numbers::params(told.t, told.c));
     same_number("the depth's number", depth.number, right)?;
-    let bytes = if right == 0 { judge::depth(told.t as u16) } else { 0 };
+    let bytes = if right == 0 { layout::right_depth(told.t) } else { 0 };
     same("depth", depth.value, bytes as u64)?;
     let zoom = called(calls::base_max_zoom(told.c));
     let known = (2..=256).contains(&told.c);
@@ -144,7 +155,7 @@ pub fn story(dice: &mut Dice) -> Outcome {
     for _ in 0..300 {
         let mut told = Told::new(dice);
         let (t, c) = told.small();
-        let src = dice.cell(t, c);
+        let src = cell(dice, t, c);
         let n = dice.sub_window(t);
         if dice.chance(15) {
             spoil(dice, &mut told);

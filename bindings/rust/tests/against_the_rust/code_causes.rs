@@ -3,6 +3,8 @@
 use crate::code_calls::{self, Kept};
 use crate::directed::SMALL;
 use crate::held::{self, Held};
+use crate::layout;
+use crate::numbers;
 use crate::plain_calls::Told;
 use crate::score::{Outcome, same};
 
@@ -22,11 +24,10 @@ impl Calls {
         let mut kept = Kept::none();
         kept.watch.count = 2;
         kept.watch.rows = 2;
+        let sketch = held::sketch_of(&SMALL, 0, 7);
+        let grid = vec![0; numbers::grid_bytes(&sketch)];
         Self {
-            held: Held {
-                sketch: held::sketch_of(&SMALL, 0, 7),
-                grid: vec![0; 96],
-            },
+            held: Held { sketch, grid },
             kept,
             columns: vec![0; 4],
             limits: vec![1; 2],
@@ -52,7 +53,7 @@ impl Calls {
             }
             20 => self.list.clear(),
             // The zoom of cell 0.
-            _ => held.grid[held.sketch.t + 2] = 255,
+            _ => held.grid[layout::zoom_of(held.sketch.t, 0)] = 255,
         }
     }
 }

@@ -7,7 +7,7 @@ use crate::code_lists::{how_many, key, limit, new_list, room};
 use crate::codes::{self, MOST};
 use crate::held::{self, Held, held, published};
 use crate::judge;
-use crate::numbers;
+use crate::layout;
 use crate::plain_calls::Told;
 use crate::score::Outcome;
 use microscope::calls::Sketch;
@@ -68,7 +68,7 @@ fn spoil_cells(dice: &mut Dice, held: &mut Held, kept: &Kept, s: &Sketch) {
     for _ in 0..dice.within(1, 4) {
         let row = dice.below(s.rows as u64) as usize;
         let column = kept.columns[dice.below(8) as usize * s.rows + row] as usize;
-        let zoom = (row * s.cols + column % s.cols) * numbers::depth(s.t) + s.t + 2;
+        let zoom = layout::zoom_of(s.t, row * s.cols + column % s.cols);
         if let Some(byte) = held.grid.get_mut(zoom) {
             *byte = dice.one_of(&[judge::max_zoom(s.c as u16) + 1, 255]);
         }

@@ -1,6 +1,8 @@
 //! Calls chosen for their edges, with the answers worked out by hand where the Rust has none.
 
+use crate::held;
 use crate::judge::Settings;
+use crate::numbers;
 use crate::pair::Pair;
 use crate::score::{Outcome, called, number, same, same_number};
 use crate::stories::FRACTIONS;
@@ -58,7 +60,7 @@ fn bench_sheet() -> Outcome {
 
 /// seen at the top of its range, now before the epoch and at the top.
 fn clock_edges() -> Outcome {
-    let grid = vec![0; 2 * 4 * 12];
+    let grid = vec![0; numbers::grid_bytes(&held::sketch_of(&SMALL, 0, 7))];
     for length in [1, 2, 3, 1 << 53] {
         let mut pair = Pair::loaded(Settings { length, ..SMALL }, u64::MAX - 3, 77, &grid)?;
         for _ in 0..600 {

@@ -1,7 +1,9 @@
 //! Sketches and grids with plain values, good and bad.
 
+use crate::beside::{shutter_at, zoom_at};
 use crate::choose::Dice;
 use crate::judge::{self, Settings};
+use crate::layout;
 use crate::numbers;
 use crate::score::{Outcome, same};
 use crate::stories;
@@ -31,15 +33,16 @@ pub fn sketch_of(settings: &Settings, reading: u64, state: u64) -> Sketch {
 /// Makes some cell unsound: a zoom above the largest, or a shutter at c^Z or above.
 fn spoil_cell(dice: &mut Dice, held: &mut Held) {
     let (t, c) = (held.sketch.t, held.sketch.c);
-    let cells = held.grid.len() / numbers::depth(t);
-    let at = dice.below(cells as u64) as usize * numbers::depth(t);
+    let depth = layout::depth(t);
+    let cells = held.grid.len() / depth;
+    let at = dice.below(cells as u64) as usize * depth;
     let cell = &mut held.grid[at..];
-    let unit = numbers::unit(c, cell[t + 2]).expect("a sound cell");
+    let unit = numbers::unit(c, cell[zoom_at(t)]).expect("a sound cell");
     if dice.chance(50) {
-        cell[t + 2] = dice.one_of(&[judge::max_zoom(c as u16) + 1, 255]);
+        cell[zoom_at(t)] = dice.one_of(&[judge::max_zoom(c as u16) + 1, 255]);
     } else {
         let shutter = dice.one_of(&[unit, u32::MAX as u64]) as u32;
-        cell[t + 3..t + 7].copy_from_slice(&shutter.to_le_bytes());
+        cell[shutter_at(t)].copy_from_slice(&shutter.to_le_bytes());
     }
 }
 
@@ -107,7 +110,7 @@ pub fn published(held: &Held) -> judge::Sketch {
     };
     let mut theirs = settings.make();
     judge::set(&mut theirs, s.reading, s.state);
-    judge::set_grid(&mut theirs, &held.grid);
+    judge::set_grid(&mut theirs, &layout::to_theirs(s.t, &held.grid));
     theirs
 }
 

@@ -1,4 +1,5 @@
-//! The wrapper beside the published Rust: the same calls on both, and every figure, state and byte compared.
+//! The wrapper beside the published Rust: the same calls on both, and every figure, state, pixel, zoom and shutter
+//! compared.
 //!
 //!     against_the_rust [--seed N] [--calls N]
 //!
@@ -11,6 +12,7 @@
 extern crate self as smallvec;
 
 mod band;
+mod beside;
 mod cells;
 mod code_calls;
 mod code_causes;
@@ -23,6 +25,7 @@ mod damage;
 mod directed;
 mod held;
 mod hits;
+mod layout;
 mod load_order;
 mod numbers;
 mod pair;

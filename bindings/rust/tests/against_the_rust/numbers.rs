@@ -3,6 +3,8 @@
 //! Every cause can be asked for, also where one before it holds. So each is told for values out of range too: sizes stop
 //! at the largest number, a sub-window of length 0 has no number, and only what the lent bytes hold whole is a cell.
 
+use crate::beside::{shutter_at, zoom_at};
+use crate::layout::depth;
 use crate::stores::{BLOCK, CARRIED};
 use microscope::calls::Sketch;
 
@@ -18,10 +20,6 @@ pub fn first(causes: &Causes) -> u64 {
 pub fn then<const N: usize>(mut before: Causes, more: [(u64, bool); N]) -> Causes {
     before.extend(more);
     before
-}
-
-pub fn depth(t: usize) -> usize {
-    t.saturating_add(7).checked_next_multiple_of(4).unwrap_or(usize::MAX)
 }
 
 fn fit(rows: usize, cols: usize) -> bool {
@@ -91,7 +89,7 @@ pub fn unit(c: u32, z: u8) -> Option<u64> {
 }
 
 fn unsound(t: usize, c: u32, cell: &[u8]) -> bool {
-    let Some(&[z, s0, s1, s2, s3]) = cell.get(t.saturating_add(2)..t.saturating_add(7)) else {
+    let Some(&[z, s0, s1, s2, s3]) = cell.get(zoom_at(t)..shutter_at(t).end) else {
         return false;
     };
     let s = u32::from_le_bytes([s0, s1, s2, s3]) as u64;

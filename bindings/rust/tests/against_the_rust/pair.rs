@@ -1,6 +1,7 @@
 //! A sketch of ours and one of the published Rust's that are told the same and must stay the same.
 
 use crate::judge::{self, Settings};
+use crate::layout;
 use crate::score::{Outcome, called, number, same, same_bytes, same_number};
 use crate::stores;
 use microscope::{MicroCm, MicroParams, SubWindowClock};
@@ -12,6 +13,8 @@ pub struct Pair {
     pub settings: Settings,
     pub ours: MicroCm,
     pub theirs: judge::Sketch,
+    /// Our grid at the beginning; its pads stay.
+    begun: Vec<u8>,
     /// Bytes that ours holds for codes, of which theirs has none.
     pub code_bytes: usize,
     looked: u64,
@@ -48,27 +51,27 @@ pub fn narrow(key: &[u32]) -> Vec<u16> {
 impl Pair {
     pub fn fresh(settings: Settings) -> Result<Self, String> {
         let ours = make(&settings).map_err(|why| why.to_string())?;
-        let mut pair = Self {
-            settings,
-            ours,
-            theirs: settings.make(),
-            code_bytes: 0,
-            looked: 0,
-        };
-        pair.agree_wholly()?;
-        Ok(pair)
+        let grid = vec![0; ours.grid().len()];
+        Self::begin(settings, ours, settings.make(), grid)
     }
 
     /// A sketch in the middle of its life: ours comes from a store that the test wrote.
     pub fn loaded(settings: Settings, reading: u64, state: u64, grid: &[u8]) -> Result<Self, String> {
         let mut theirs = settings.make();
         judge::set(&mut theirs, reading, state);
-        judge::set_grid(&mut theirs, grid);
+        judge::set_grid(&mut theirs, &layout::to_theirs(settings.t as usize, grid));
         let store = stores::encode(&settings, reading, state, grid);
+        let ours = called(MicroCm::load(&store)).map_err(|why| why.to_string())?;
+        Self::begin(settings, ours, theirs, grid.to_vec())
+    }
+
+    /// Both begin, ours with this grid.
+    fn begin(settings: Settings, ours: MicroCm, theirs: judge::Sketch, begun: Vec<u8>) -> Result<Self, String> {
         let mut pair = Self {
             settings,
-            ours: called(MicroCm::load(&store)).map_err(|why| why.to_string())?,
+            ours,
             theirs,
+            begun,
             code_bytes: 0,
             looked: 0,
         };
@@ -187,8 +190,9 @@ impl Pair {
             called((ours.params().t, ours.params().c)),
             (params.t, params.c),
         )?;
-        same("bytes a cell", called(ours.cell_bytes()), theirs.cell_bytes())?;
-        let bytes = size_of::<MicroCm>() + judge::grid(theirs).len() + self.code_bytes;
+        let depth = layout::right_depth(params.t);
+        same("bytes a cell", called(ours.cell_bytes()), depth)?;
+        let bytes = size_of::<MicroCm>() + theirs.rows() * theirs.cols() * depth + self.code_bytes;
         same("bytes in memory", called(ours.memory_bytes()), bytes)?;
         same("n", called(ours.sub_window()), theirs.sub_window())?;
         let fraction = called(ours.residual_fraction()).to_bits();
@@ -199,7 +203,10 @@ impl Pair {
         if row >= ours.rows() || col >= ours.cols() {
             return same_number("the cell's number", number(&cell), 7);
         }
-        same("cell", cell, Ok(theirs.as_storage().bucket_slice(row, col)))
+        let cell = cell.map_err(|why| why.to_string())?;
+        let start = (row * ours.cols() + col) * depth;
+        same_bytes("the cell in the grid", cell, &ours.grid()[start..][..depth])?;
+        layout::same_cells("the cell", params.t, cell, theirs.as_storage().bucket_slice(row, col))
     }
 
     /// What the clock, the state and (of small ones) the grid are after a call.
@@ -215,8 +222,11 @@ impl Pair {
         Ok(())
     }
 
-    fn equal_grids(&self) -> Outcome {
-        same_bytes("the grid", self.ours.grid(), judge::grid(&self.theirs))
+    /// Pixels, zooms and shutters are the Rust's, and the pads are as they were.
+    pub fn equal_grids(&self) -> Outcome {
+        let (t, grid) = (self.settings.t as usize, self.ours.grid());
+        layout::same_cells("the grid", t, grid, judge::grid(&self.theirs))?;
+        layout::same_pads(t, grid, &self.begun)
     }
 
     pub fn agree_wholly(&mut self) -> Outcome {

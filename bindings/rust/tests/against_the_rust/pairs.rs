@@ -4,7 +4,7 @@ use crate::code_calls::{self, Kept};
 use crate::damage;
 use crate::held::Held;
 use crate::hits::CALLS;
-use crate::numbers;
+use crate::layout;
 use crate::plain_calls::{self, Told};
 use crate::score::{Outcome, same, same_bytes};
 use microscope::calls::{KEPT_COLUMNS, MOST_CODES, Sketch, Watch};
@@ -67,9 +67,8 @@ fn held(words: &[u64]) -> Held {
 
 /// The same with one more cell whose zoom is 255: 1 + its index, 0: none.
 fn unsound(mut held: Held, cell: u64) -> Held {
-    let t = held.sketch.t;
     if let Some(index) = size(cell).checked_sub(1) {
-        held.grid[index * numbers::depth(t) + t + 2] = 255;
+        held.grid[layout::zoom_of(held.sketch.t, index)] = 255;
     }
     held
 }

@@ -4,6 +4,7 @@
 use crate::held::{Held, names, published};
 use crate::hits;
 use crate::judge;
+use crate::layout;
 use crate::load_order;
 use crate::numbers;
 use crate::pair::narrow;
@@ -37,7 +38,9 @@ fn answered(answer: Answer, right: u64, before: &Held, left: &[u8], call: impl F
     };
     same("sketch", answer.sketch, sketch)?;
     same("draws", answer.draws, judge::draws_between(before.sketch.state, state))?;
-    same_bytes("the grid", left, judge::grid(&theirs))?;
+    let t = before.sketch.t;
+    layout::same_cells("the grid", t, left, judge::grid(&theirs))?;
+    layout::same_pads(t, left, &before.grid)?;
     Ok(told)
 }
 

@@ -2,6 +2,7 @@
 
 use crate::damage;
 use crate::directed::SMALL;
+use crate::layout;
 use crate::pair::{Pair, make};
 use crate::score::{Outcome, called, number, same, same_number};
 use crate::stores;
@@ -56,18 +57,19 @@ fn settings_refused() -> Outcome {
 fn stores_refused() -> Outcome {
     let good = Pair::fresh(SMALL)?.ours;
     let (header, grid) = (stores::header(&SMALL, 0, 7), good.grid().to_vec());
+    let bytes = grid.len();
     let store = stores::of_payloads(&header, &grid);
-    damage::refused(&store, 96, 0)?;
-    damage::refused(&store, 95, 6)?;
-    damage::refused(&[], 96, 16)?;
-    damage::refused(&store[..511], 96, 16)?;
-    damage::refused(&store[..512], 96, 16)?;
-    damage::refused(&stores::of_payloads(&header, &[0; 505]), 96, 16)?;
-    damage::refused(&[&store[512..], &store[..512]].concat(), 96, 17)?;
-    damage::refused(&stores::of_payloads(&header, &[&grid[..], &[1]].concat()), 96, 18)?;
+    damage::refused(&store, bytes, 0)?;
+    damage::refused(&store, bytes - 1, 6)?;
+    damage::refused(&[], bytes, 16)?;
+    damage::refused(&store[..511], bytes, 16)?;
+    damage::refused(&store[..512], bytes, 16)?;
+    damage::refused(&stores::of_payloads(&header, &[0; 505]), bytes, 16)?;
+    damage::refused(&[&store[512..], &store[..512]].concat(), bytes, 17)?;
+    damage::refused(&stores::of_payloads(&header, &[&grid[..], &[1]].concat()), bytes, 18)?;
     let mut unsound = grid.clone();
-    unsound[12 * 5 + 4] = 32;
-    damage::refused(&stores::of_payloads(&header, &unsound), 96, 14)?;
+    unsound[layout::zoom_of(SMALL.t as usize, 5)] = 32;
+    damage::refused(&stores::of_payloads(&header, &unsound), bytes, 14)?;
     let index = MicroCm::load(&stores::of_payloads(&header, &unsound))
         .err()
         .and_then(|why| why.index());
@@ -87,15 +89,15 @@ fn stores_refused() -> Outcome {
     for (at, value, right) in fields {
         let mut other = header.clone();
         other[at] = value;
-        damage::refused(&stores::of_payloads(&other, &grid), 96, right)?;
+        damage::refused(&stores::of_payloads(&other, &grid), bytes, right)?;
     }
     let mut other = header.clone();
     other[24..32].fill(0);
-    damage::refused(&stores::of_payloads(&other, &grid), 96, 3)?;
+    damage::refused(&stores::of_payloads(&other, &grid), bytes, 3)?;
     other = header;
     other.resize(504, 0);
     other[503] = 1;
-    damage::refused(&stores::of_payloads(&other, &grid), 96, 18)
+    damage::refused(&stores::of_payloads(&other, &grid), bytes, 18)
 }
 
 fn words() -> Outcome {
@@ -106,8 +108,8 @@ fn words() -> Outcome {
         told,
         Err("refused by 7: not one column a row, or a row or column out of range".into()),
     )?;
-    let mut unsound = vec![0; 96];
-    unsound[12 * 5 + 4] = 32;
+    let mut unsound = ours.grid().to_vec();
+    unsound[layout::zoom_of(SMALL.t as usize, 5)] = 32;
     let store = stores::encode(&SMALL, 0, 7, &unsound);
     let told = called(MicroCm::load(&store)).map_err(|why| why.to_string());
     same("14 in words", told, Err("refused by 14: unsound cell 5".into()))?;

@@ -3,6 +3,7 @@
 use crate::choose::Dice;
 use crate::damage;
 use crate::judge::{self, Settings};
+use crate::layout;
 use crate::pair::Pair;
 use crate::score::{Outcome, called, same, same_bytes};
 use crate::stores;
@@ -89,7 +90,8 @@ fn settings(dice: &mut Dice) -> Settings {
 /// A grid of sound cells, most of them near an edge of the rules.
 pub fn grid(dice: &mut Dice, settings: &Settings) -> Vec<u8> {
     let cells = settings.rows as usize * settings.cols as usize;
-    (0..cells).flat_map(|_| dice.cell(settings.t, settings.c)).collect()
+    let cell = |_| layout::from_theirs(settings.t, dice.cell(settings.t, settings.c));
+    (0..cells).flat_map(cell).collect()
 }
 
 /// A clock's reading, often early, sometimes at the top, sometimes before the epoch.
@@ -203,12 +205,13 @@ fn items(dice: &mut Dice, pair: &mut Pair) -> Outcome {
 }
 
 fn stored(pair: &Pair) -> Outcome {
+    pair.equal_grids()?;
     let clock = judge::clock(&pair.theirs);
     let right = stores::encode(
         &pair.settings,
         clock.reading,
         judge::state(&pair.theirs),
-        judge::grid(&pair.theirs),
+        pair.ours.grid(),
     );
     let store = called(pair.ours.save()).map_err(|why| why.to_string())?;
     same_bytes("the store", &store, &right)?;
