@@ -7,6 +7,10 @@ mod choice;
 mod ours;
 mod standins;
 
+// What the wrapper's tests compare cells by.
+#[path = "../../bindings/rust/tests/against_the_rust/beside.rs"]
+mod beside;
+
 // The published files, found through the links that oracle/tree makes.
 #[rustfmt::skip]
 #[allow(dead_code, unused_imports)]
@@ -30,6 +34,7 @@ pub use common::structures::matrix_storage::MatrixFastHash;
 pub use common::structures::vector3d::Vector3D;
 pub use standins::{Columns as DefaultXxHasher, DataInput, SketchHasher, SmallVec, analytics};
 
+use beside::{Cells, same_cells};
 use choice::Choice;
 use ours::{Codes, Ours};
 use sketches::microscope::cell::reach;
@@ -122,9 +127,10 @@ fn told(what: &str, shape: Shape, (ours, theirs): (f64, Option<f64>), aim: &str)
     }
 }
 
-/// Both must have come to the same bytes: a benchmark of two different things says nothing.
+/// Both must have come to the same pixels, zooms and shutters: a benchmark of two different things says nothing.
 fn same(ours: &Ours, theirs: &Theirs) {
-    assert_eq!(ours.grid, theirs.as_storage().as_slice(), "the grids differ");
+    let right = Cells { bytes: theirs.as_storage().as_slice(), depth: theirs.cell_bytes() };
+    assert_eq!(same_cells(ours.sketch.t, ours.cells(), right), Ok(()), "the grids differ");
     assert_eq!(ours.sketch.state, reach::state(theirs), "the states differ");
 }
 
@@ -155,7 +161,8 @@ fn filled(shape: Shape, items: usize) -> (Ours, Theirs) {
     }
     ours.grid.copy_from_slice(&counting.grid);
     ours.sketch.state = counting.sketch.state;
-    reach::set_grid(&mut theirs, &counting.grid);
+    let grid = counting.cells().at_depth(shape.t, theirs.cell_bytes());
+    reach::set_grid(&mut theirs, &grid);
     reach::set_state(&mut theirs, counting.sketch.state);
     (ours, theirs)
 }

@@ -1,5 +1,7 @@
 //! Our calls, as include/microscope.h declares them.
 
+use crate::beside::Cells;
+
 #[repr(C)]
 #[derive(Clone, Copy, Debug)]
 pub struct Sketch {
@@ -105,6 +107,7 @@ pub struct Audit {
 }
 
 unsafe extern "C" {
+    fn microscope_depth(t: usize, c: u32) -> Number;
     fn microscope_new(rows: usize, cols: usize, t: usize, c: u32, kind: u32, length: u64, epoch: u64, seed: u64, grid: *mut u8, size: usize) -> Start;
     fn microscope_update(sketch: Sketch, key: *const u32, rows: usize, grid: *mut u8, size: usize) -> Answer;
     fn microscope_update_in_place(settings: Settings, reading: *mut u64, state: *mut u64, key: *const u32, rows: usize, grid: *mut u8, size: usize) -> Change;
@@ -144,13 +147,22 @@ fn accepted(number: u64) {
     assert_eq!(number, 0, "refused");
 }
 
+fn depth(t: usize, c: u32) -> usize {
+    let depth = unsafe { microscope_depth(t, c) };
+    accepted(depth.number);
+    depth.value as usize
+}
+
 impl Ours {
     pub fn new(rows: usize, cols: usize, t: usize, c: u32, kind: u32, length: u64, seed: u64) -> Self {
-        let depth = (t + 7).div_ceil(4) * 4;
-        let mut grid = vec![0; rows * cols * depth];
+        let mut grid = vec![0; rows * cols * depth(t, c)];
         let start = unsafe { microscope_new(rows, cols, t, c, kind, length, 0, seed, grid.as_mut_ptr(), grid.len()) };
         accepted(start.number);
         Self { sketch: start.sketch, grid }
+    }
+
+    pub fn cells(&self) -> Cells<'_> {
+        Cells { bytes: &self.grid, depth: depth(self.sketch.t, self.sketch.c) }
     }
 
     pub fn update(&mut self, key: &[u32]) {
