@@ -8,7 +8,7 @@ use native.Mathlib.Omega.{arith}
 use lib.Ieee.{binary64, div}
 use lib.Ieee.Scale.{round-same}
 use lib.Dec.{leb}
-use borrow.Author.Tests.{leb-true, leb-false, eq-eqb}
+use borrow.Author.Tests.{leb-true, leb-false}
 use Rattle.laws.specs.Figure.{figure}
 use Rattle.laws.proofs.FigureLaws.{figure-is, figure-sub, figure-div}
 use Rattle.laws.specs.Unit.{inUnit}
@@ -51,21 +51,10 @@ pub start-keeps : (k : SubWindowClock) → Keeps k (startOf k)
 start-keeps (CountBased l s) = count-keeps l s 0
 start-keeps (TimeBased l e n) = time-keeps l e n e
 
-pub keeps-good : (k k' : SubWindowClock) → Keeps k k' → GoodLength k → GoodLength k'
-keeps-good k k' same good = record { some = omega (arith, same .length); short = omega (arith, same .length) }
-
-pub frame-self : (k : SubWindowClock) → sameFrame k k ≡ true
-frame-self (CountBased l s) = eq-eqb l l refl
-frame-self (TimeBased l e n) = simp (eq-eqb l l refl, eq-eqb e e refl)
-
 -- ---- the reading stays a u64
 pub tick-reading : (k : SubWindowClock) → readingOf k < 2 ^ 64 → readingOf (tickOf k) < 2 ^ 64
 tick-reading (CountBased l s) h = omega arith
 tick-reading (TimeBased l e n) h = h
-
-pub advance-reading : (k : SubWindowClock) (reading : ℕ) → readingOf k < 2 ^ 64 → reading < 2 ^ 64 → readingOf (advanceOf k reading) < 2 ^ 64
-advance-reading (CountBased l s) reading h r = h
-advance-reading (TimeBased l e n) reading h r = omega arith
 
 -- ---- n
 quotient-grows : (d : ℕ) {a b : ℕ} → a ≤ b → a / d ≤ b / d

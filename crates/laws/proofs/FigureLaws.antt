@@ -1,17 +1,17 @@
--- Whole numbers up to 2 ^ 53 as f64: each is held exactly, so a sum, a difference or a product is the figure of the whole-number result,
--- a quotient is rounded once, and comparisons are those of the whole numbers. A result of at most 2 ^ 53 is again the whole number itself.
+-- Whole numbers up to 2 ^ 53 as f64: each is held exactly, so a sum or a difference is the figure of the whole-number result, and a quotient
+-- is rounded once. A result of at most 2 ^ 53 is again the whole number itself.
 use mathlib.Core.Path.{_≡_, refl, sym, _∙_, subst}
 use mathlib.Core.Bool.{false}
-use Prim.Native.Nat.{ℕ, _+_, _-_, _*_, _^_, _≤_, _<_}
+use Prim.Native.Nat.{ℕ, _+_, _-_, _^_, _≤_, _<_}
 use native.Mathlib.Nat.{zero-lt-suc, mul-one, one-mul}
 use native.Mathlib.Omega.{arith}
 use lib.IntN.{pos}
-use lib.Dec.{T, leb, ltb, le→leb}
-use lib.Ieee.{Float, binary64, round, add, sub, mul, div, lt, le, ofInt, inFloat, ofBits}
+use lib.Dec.{T, le→leb}
+use lib.Ieee.{Float, binary64, round, add, sub, div, ofInt, inFloat, ofBits}
 use lib.Ieee.Exact.{HasValue}
 use lib.Ieee.Back.{round-whole}
 use Rattle.laws.specs.Figure.{figure}
-use Rattle.laws.proofs.FractionValues.{value-add, value-sub, value-mul, value-div, value-le, value-lt}
+use Rattle.laws.proofs.FractionValues.{value-add, value-sub, value-div}
 
 -- what the cast of a u64 asks
 pub castable : (n : ℕ) → n ≤ 2 ^ 53 → T (inFloat binary64 (pos n))
@@ -46,14 +46,5 @@ module _ (a b : ℕ) (h : a ≤ 2 ^ 53) (k : b ≤ 2 ^ 53) where
       value-sub (figure a) (figure b) a 1 b 1 one-pos one-pos (figure-value a h) (figure-value b k) (omega arith)
       ∙ simp mul-one (sym (figure-is (a - b)))
 
-  pub figure-mul : mul binary64 (figure a) (figure b) ≡ figure (a * b)
-  figure-mul = value-mul (figure a) (figure b) a 1 b 1 one-pos one-pos (figure-value a h) (figure-value b k) ∙ sym (figure-is (a * b))
-
   pub figure-div : 0 < b → div binary64 (figure a) (figure b) ≡ round binary64 false a b
   figure-div B = value-div (figure a) (figure b) a 1 b 1 one-pos one-pos (figure-value a h) (figure-value b k) B ∙ simp (mul-one, one-mul)
-
-  pub figure-le : le (figure a) (figure b) ≡ leb a b
-  figure-le = value-le (figure a) (figure b) a 1 b 1 one-pos one-pos (figure-value a h) (figure-value b k) ∙ simp mul-one
-
-  pub figure-lt : lt (figure a) (figure b) ≡ ltb a b
-  figure-lt = value-lt (figure a) (figure b) a 1 b 1 one-pos one-pos (figure-value a h) (figure-value b k) ∙ simp mul-one

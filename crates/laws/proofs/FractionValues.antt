@@ -3,10 +3,10 @@
 use mathlib.Core.Path.{_≡_, refl, sym, ap, _∙_, subst}
 use mathlib.Core.Bool.{Bool, true, false, not, _&&_, _||_, cond, true≢false}
 use Prim.Native.Nat.{ℕ, zero, suc, _+_, _-_, _*_, _^_, _≤_, _<_}
-use native.Mathlib.Nat.{le-of-lt, le-of-eq, le-antisymm, lt-of-not-le, not-le-of-lt, lt-irrefl}
+use native.Mathlib.Nat.{le-of-lt, le-of-eq, le-antisymm, not-le-of-lt, lt-irrefl}
 use native.Mathlib.Nat.{mul-comm, mul-assoc, mul-left-comm, add-mul, mul-sub, mul-pos, mul-mul-mul-comm}
 use lib.IntN.{ℤ}
-use lib.Dec.{T, leb, ltb, eqb, ltb→lt, lt→ltb, leb→le, le→leb, eqb→eq, eqb-refl, nltb→le}
+use lib.Dec.{T, leb, ltb, eqb, ltb→lt, leb→le, le→leb, eqb→eq, eqb-refl, nltb→le}
 use lib.Ieee.{Float, nan, inf, fin, Format, binary64, prec, emax, low, up, down, odd, units, round, add, sub, sum, mul, div, lt, le}
 use lib.Ieee.Fits.{down-pos, round-is}
 use lib.Ieee.Exact.{HasValue}
@@ -57,10 +57,6 @@ module _ (m : ℕ) (e : ℤ) (n : ℕ) (g : ℤ) where
           ≡ rounded (over m e g - over n g e) (down e * down g)
       go true k = absurd (not-le-of-lt (k tt) h)
       go false k = refl
-
-  lt-fin : lt (fin false m e) (fin false n g) ≡ ltb (over m e g) (over n g e)
-  unfolding lt
-  lt-fin = refl
 
   le-fin : le (fin false m e) (fin false n g) ≡ (ltb (over m e g) (over n g e) || (eqb (over m e g) (over n g e) && true))
   unfolding le
@@ -156,16 +152,6 @@ module _ (x y : Float) (a c b d : ℕ) (C : 0 < c) (D : 0 < d) (h : HasValue x f
       (λ t. le→leb (a * d) (b * c)
       (transfer a b c d (m * up e) (n * up g) (down e) (down g) (down-pos e) (down-pos g) (sym p) (sym q) (leb→le (over m e g) (over n g e) t)))
       (λ t. le→leb (over m e g) (over n g e) (transfer (m * up e) (n * up g) (down e) (down g) a b c d C D p q (leb→le (a * d) (b * c) t))))
-
-  pub value-lt : lt x y ≡ ltb (a * d) (b * c)
-  value-lt =
-      of-values (λ (x y : Float). lt x y ≡ ltb (a * d) (b * c)) (λ m e n g p q.
-      lt-fin m e n g
-      ∙ same-test _ _
-      (λ t. lt→ltb (a * d) (b * c) (lt-of-not-le (λ l. not-le-of-lt (ltb→lt (over m e g) (over n g e) t)
-      (transfer (n * up g) (m * up e) (down g) (down e) b a d c D C q p l))))
-      (λ t. lt→ltb (over m e g) (over n g e) (lt-of-not-le (λ l. not-le-of-lt (ltb→lt (a * d) (b * c) t)
-      (transfer b a d c (n * up g) (m * up e) (down g) (down e) (down-pos g) (down-pos e) (sym q) (sym p) l)))))
 
 -- ---- a rounded fraction
 -- not a NaN, and with no minus sign

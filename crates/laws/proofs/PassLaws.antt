@@ -6,8 +6,8 @@ use mathlib.Core.List.{List, _++_, append-assoc}
 use lib.ListN.{length, take, drop, length-drop, take-append-drop}
 use lib.Seq.{drop-drop, length-take-le}
 use native.Mathlib.Omega.{arith}
-use native.Mathlib.Nat.{add-zero, zero-add, add-suc, suc-add, add-assoc, zero-mul, suc-mul, sub-zero}
-use native.Mathlib.Nat.{eq-or-lt-of-le, le-of-suc-le-suc, lt-suc-self, le-refl}
+use native.Mathlib.Nat.{add-zero, zero-add, add-suc, suc-add, add-assoc, zero-mul, sub-zero}
+use native.Mathlib.Nat.{eq-or-lt-of-le, le-of-suc-le-suc, lt-suc-self}
 use native.Mathlib.Numerals.{add-one}
 use Rattle.laws.specs.Steps.{Step, still, chain, made}
 use Rattle.laws.specs.Parts.{part, splice}
@@ -80,16 +80,6 @@ module _ (f : ℕ → List ℕ → ℕ → Step) (size : ℕ) where
         each-holds (suc i) h =
             rw (each-suc i j l σ (piece-room size k i (length l) h room))
             (next i (eachOf f size j i l σ .draws) (eachOf f size j i l σ .state) h (each-holds i (omega arith)))
-
-        -- and of each piece, what the step makes where that holds
-        pub each-keeps : (P : ℕ → List ℕ → Type 0) → ((i n s : ℕ) → i < k → Q i n s → P i (f (j + i) (part (i * size) size l) s .bytes))
-            → (i : ℕ) → i < k → P i (part (i * size) size (eachOf f size j k l σ .bytes))
-        each-keeps P made i h =
-            rw (each-piece k j i l σ h room)
-            (made i (eachOf f size j i l σ .draws) (eachOf f size j i l σ .state) h (each-holds i (omega arith)))
-
-      pub each-draws : (m : ℕ) → ((i s : ℕ) → i < k → f (j + i) (part (i * size) size l) s .draws ≤ m) → eachOf f size j k l σ .draws ≤ k * m
-      each-draws m few = each-holds (λ i n s. n ≤ i * m) (omega arith) (λ i n s h q. omega (arith, suc-mul i m, few i s h)) k (le-refl k)
 
 -- WHERE A LOOP IS that steps from piece to piece in place: i pieces are done, and the next begins at a
 pub record Going (f : ℕ → List ℕ → ℕ → Step) (size m k : ℕ) (l₀ : List ℕ) (σ₀ : ℕ) (l : List ℕ) (σ drawn a i : ℕ) : Type 0 where

@@ -38,16 +38,8 @@ module _ (c : ℕ) where
         let h : 0 < c = omega arith in
         le-trans (pow-le-pow-right h l) (highest-fits 31)
 
-    pub highest-over : 2 ^ 32 - 1 < c ^ suc (highest c 31)
-    highest-over = lt-of-not-le (λ h. omega (arith, highest-largest (suc (highest c 31)) h))
-
     -- what a search that stops at the first power too large has found
     pub highest-unique : (z : ℕ) → c ^ z ≤ 2 ^ 32 - 1 → 2 ^ 32 - 1 < c ^ suc z → z ≡ highest c 31
     highest-unique z fits over =
         let l : highest c 31 < suc z = lt-of-not-le (λ l. not-le-of-lt over (power-fits (suc z) l)) in
         omega (arith, highest-largest z fits)
-
-    pub highest-three : c ≤ 256 → 3 ≤ highest c 31
-    highest-three h =
-        let a : c ^ 3 ≤ 256 ^ 3 = pow-le-pow-left h 3 in
-        highest-largest 3 (omega arith)
