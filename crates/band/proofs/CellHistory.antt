@@ -14,7 +14,7 @@ use Rattle.laws.proofs.ChoiceLaws.{either}
 use Rattle.cell.specs.Cell.{pixelsOf, slotOf, pixelsIn, pixelOf, zoomOf, shutterOf, unitOf, withPixel, withShutter, maxZoom}
 use Rattle.cell.specs.Insertion.{divideEach, zoomOutOf, creditOf, insertOf}
 use Rattle.cell.specs.Workers.{Fit}
-use Rattle.cell.proofs.SmallLaws.{Small}
+use Rattle.laws.proofs.SmallLaws.{Small}
 use Rattle.cell.proofs.CellLaws.{slot-inside, with-pixel-zoom, with-shutter-shutter, with-shutter-pixel, with-shutter-zoom, with-shutter-kept}
 use Rattle.cell.proofs.PowerLaws.{zoom-fits}
 use Rattle.cell.proofs.DivideLaws.{divide-each}

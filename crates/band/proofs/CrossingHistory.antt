@@ -17,7 +17,7 @@ use Rattle.cell.specs.Cell.{pixelsOf, slotOf, pixelsIn, pixelOf, zoomOf, shutte
 use Rattle.cell.specs.Insertion.{creditOf}
 use Rattle.cell.specs.Crossing.{closeOf, clearOf, emptied, insideOf, ceilingOf, allAtMost, zoomedIn, zoomInFrom, zoomInOf, crossOf}
 use Rattle.cell.specs.Workers.{Fit}
-use Rattle.cell.proofs.SmallLaws.{Small}
+use Rattle.laws.proofs.SmallLaws.{Small}
 use Rattle.cell.proofs.CellLaws.{slot-inside}
 use Rattle.cell.proofs.PowerLaws.{max-zoom-limit}
 use Rattle.cell.proofs.CrossingLaws.{closed, inside-quiet, clear-zoom, zoomed-kept, zoomed-zoom, zoomed-shutter}

@@ -10,7 +10,8 @@ use Rattle.laws.specs.Bytes.{bytesOf}
 use Rattle.laws.specs.Parts.{part}
 use Rattle.laws.proofs.PartLaws.{part-length, splice-length, splice-before, splice-dropped, splice-at-before}
 use Rattle.laws.proofs.ByteLaws.{bytes-length, bytes-small, no-bytes, number-splice}
-use Rattle.cell.proofs.SmallLaws.{Small, small-append, small-take, small-drop, small-set}
+use Rattle.cell.proofs.SmallLaws.{small-set}
+use Rattle.laws.proofs.SmallLaws.{Small, small-append, small-take, small-drop}
 use Rattle.cell.specs.Cell.{pixelsOf, padAt, depthOf, slotOf, pixelsIn, pixelOf, zoomOf, shutterOf, withPixel, withPixels, withZoom, withShutter}
 
 -- what every change of a cell keeps

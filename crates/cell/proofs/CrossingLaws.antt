@@ -19,7 +19,7 @@ use Rattle.cell.specs.Insertion.{creditOf}
 use Rattle.cell.specs.Crossing.{closeOf, clearOf, emptied, endedOf, beginOf, insideOf, crossOf}
 use Rattle.cell.specs.Crossing.{ceilingOf, allAtMost, timesEach, zoomedIn, zoomInFrom, zoomInOf}
 use Rattle.cell.specs.Workers.{Fit}
-use Rattle.cell.proofs.SmallLaws.{Small}
+use Rattle.laws.proofs.SmallLaws.{Small}
 use Rattle.cell.proofs.CellLaws.{Kept, kept-same, kept-then, slot-inside, with-pixel-zoom, with-pixel-shutter, with-pixel-kept}
 use Rattle.cell.proofs.CellLaws.{with-zoom-zoom, with-zoom-shutter, with-zoom-kept, with-pixels-zoom, with-pixels-shutter, with-pixels-kept}
 use Rattle.cell.proofs.CellLaws.{with-shutter-shutter, with-shutter-zoom, with-shutter-kept}

@@ -9,7 +9,7 @@ use Rattle.rounding.specs.Draws.{roundedDiv, stateAfter}
 use Rattle.rounding.proofs.DivisionLaws.{draws-le, value-le, state-is}
 use Rattle.rounding.proofs.StateLaws.{after-add}
 use Rattle.cell.specs.Insertion.{divideEach}
-use Rattle.cell.proofs.SmallLaws.{Small}
+use Rattle.laws.proofs.SmallLaws.{Small}
 
 -- half of 256, and one more, is a byte
 pub quotient-small : (v c σ : ℕ) → v ≤ 256 → 2 ≤ c → roundedDiv v c σ .value < 256

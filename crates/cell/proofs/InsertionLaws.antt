@@ -14,7 +14,8 @@ use Rattle.rounding.specs.Draws.{stateAfter}
 use Rattle.cell.specs.Cell.{pixelsOf, slotOf, pixelsIn, pixelOf, zoomOf, shutterOf, unitOf, withPixel, withZoom, withShutter, maxZoom, soundOf}
 use Rattle.cell.specs.Insertion.{divideEach, zoomOutOf, creditOf, insertOf}
 use Rattle.cell.specs.Workers.{Fit}
-use Rattle.cell.proofs.SmallLaws.{Small, small-take, bounded-set}
+use Rattle.cell.proofs.SmallLaws.{bounded-set}
+use Rattle.laws.proofs.SmallLaws.{Small, small-take}
 use Rattle.cell.proofs.CellLaws.{Kept, kept-same, kept-then, slot-inside, with-pixel-zoom, with-pixel-shutter, with-pixel-kept}
 use Rattle.cell.proofs.CellLaws.{with-zoom-zoom, with-zoom-shutter, with-zoom-kept}
 use Rattle.cell.proofs.CellLaws.{with-pixels-pixels, with-pixels-zoom, with-pixels-shutter, with-pixels-kept}

@@ -13,7 +13,8 @@ use Rattle.rounding.specs.Draws.{stateAfter}
 use Rattle.cell.specs.Cell.{pixelsOf, depthOf, slotOf, pixelsIn, zoomOf, shutterOf, withPixels, withZoom, withShutter, maxZoom, soundOf}
 use Rattle.cell.specs.Merge.{addEach, Settled, settleOf, withCarry, mergeOf, sumsOf}
 use Rattle.cell.specs.Workers.{Fit}
-use Rattle.cell.proofs.SmallLaws.{Small, small-take, bounded-set}
+use Rattle.cell.proofs.SmallLaws.{bounded-set}
+use Rattle.laws.proofs.SmallLaws.{Small, small-take}
 use Rattle.cell.proofs.CellLaws.{Kept, kept-same, kept-then, with-zoom-zoom, with-zoom-kept, with-pixels-kept}
 use Rattle.cell.proofs.CellLaws.{with-shutter-shutter, with-shutter-zoom, with-shutter-kept}
 use Rattle.cell.proofs.PowerLaws.{max-zoom-limit, zoom-fits}

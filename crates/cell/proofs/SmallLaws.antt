@@ -2,7 +2,7 @@
 use Prim.Native.Nat.{ℕ, zero, suc, _<_}
 use mathlib.Core.List.{List, [], _∷_}
 use lib.ListN.{getD, set}
-pub use Rattle.laws.proofs.SmallLaws.{Small, small-append, small-take, small-drop}
+use Rattle.laws.proofs.SmallLaws.{Small}
 
 -- for any bound, since a pixel that is to be divided may count as 256
 pub bounded-set : (m : ℕ) (b : List ℕ) (k v : ℕ) → v < m → ((i : ℕ) → getD b i 0 < m) → (i : ℕ) → getD (set b k v) i 0 < m

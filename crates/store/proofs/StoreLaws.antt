@@ -15,7 +15,7 @@ use Rattle.store_header.specs.Workers.{headerOf}
 use Rattle.store.specs.Store.{storeLength, storeOf, storeWith}
 use Rattle.store.specs.Workers.{gridBlocks}
 use Rattle.store.specs.Refusals.{headerPayload}
-use Rattle.store_blocks.proofs.FillLaws.{Small, small-append}
+use Rattle.laws.proofs.SmallLaws.{Small, small-append}
 use Rattle.store_blocks.proofs.BlockLaws.{block-length, block-payload, block-passes}
 use Rattle.store_blocks.proofs.ChainLaws.{from-length, from-passes, from-payloads, first-taken, first-dropped, pass-suc}
 

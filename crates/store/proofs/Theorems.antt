@@ -20,7 +20,8 @@ use Rattle.store_header.specs.Workers.{headerOf}
 use Rattle.store.specs.Store.{blocksFor, storeOf, storeWith}
 use Rattle.store.specs.Workers.{gridBlocks}
 use Rattle.store.specs.Refusals.{headerPayload, refuseLength, loadVerdict, loadCall, saveVerdict, saveOutcome, saveCall}
-use Rattle.store_blocks.proofs.FillLaws.{Small, small-take, small-drop, filled-full, behind-zero, cut-alike}
+use Rattle.store_blocks.proofs.FillLaws.{filled-full, behind-zero, cut-alike}
+use Rattle.laws.proofs.SmallLaws.{Small, small-take, small-drop}
 use Rattle.store_blocks.proofs.BlockLaws.{block-same, block-back}
 use Rattle.store_blocks.proofs.ChainLaws.{pass-suc, blocks-changed, blocks-back, from-alike}
 use Rattle.store_blocks.proofs.ChainLoops.{carried-length}

@@ -9,7 +9,8 @@ use native.Mathlib.Omega.{arith}
 use native.Mathlib.Decide.{decLt}
 use Rattle.laws.proofs.PartLaws.{part-length}
 use Rattle.store_blocks.specs.Blocks.{filled, blockOf, blocksFrom, blockPasses, blocksPass, payloadOf, payloadsOf}
-use Rattle.store_blocks.proofs.FillLaws.{Small, Alike, alike-take, alike-drop, small-take, small-drop}
+use Rattle.store_blocks.proofs.FillLaws.{Alike, alike-take, alike-drop}
+use Rattle.laws.proofs.SmallLaws.{Small, small-take, small-drop}
 use Rattle.store_blocks.proofs.FillLaws.{filled-alike, filled-add, drop-at-behind, drop-set-behind}
 use Rattle.store_blocks.proofs.BlockLaws.{block-length, block-same, block-payload, block-passes, block-changed, block-back}
 

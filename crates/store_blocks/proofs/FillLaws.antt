@@ -12,7 +12,7 @@ use native.Mathlib.Decide.{decLt}
 use borrow.Author.Tests.{eqb-true, eq-eqb}
 use Rattle.laws.specs.Parts.{part}
 use Rattle.laws.proofs.PartLaws.{part-at}
-pub use Rattle.laws.proofs.SmallLaws.{Small, small-append, small-take, small-drop}
+use Rattle.laws.proofs.SmallLaws.{Small, small-take}
 use Rattle.store_blocks.specs.Blocks.{filled, allZero}
 
 -- the same up to zeros behind them

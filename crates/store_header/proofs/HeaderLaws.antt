@@ -20,7 +20,8 @@ use Rattle.store_blocks.specs.Blocks.{filled, allZero}
 use Rattle.store_header.specs.Header.{kindOf, epochOf, fieldOf, clockIn, sketchIn, headerWith}
 use Rattle.store_header.specs.Workers.{headerOf}
 use Rattle.store_header.specs.Refusals.{wrongForm, otherForm}
-use Rattle.store_blocks.proofs.FillLaws.{Small, small-take, small-drop, filled-is, cut-alike}
+use Rattle.store_blocks.proofs.FillLaws.{filled-is, cut-alike}
+use Rattle.laws.proofs.SmallLaws.{Small, small-take, small-drop}
 
 -- a sketch whose numbers fit the fields
 pub record Fits (k : MicroCm) : Type 0 where
