@@ -5,7 +5,8 @@ use mathlib.Core.List.{List, [], _∷_, _++_}
 use Rattle.refusal.specs.Causes.{Cause, Told}
 use Rattle.rounding.specs.Refusals.{noState}
 use Rattle.cell.specs.declared.MicroParams.{MicroParams}
-use Rattle.cell.specs.Refusals.{badWindow, badBase, badDepth, badCrossing, badCell, paramsVerdict, maxZoomVerdict, cellVerdict, insertVerdict, crossVerdict, mergeVerdict}
+use Rattle.cell.specs.Refusals.{badWindow, badBase, badDepth, badCrossing, badCell, paramsVerdict, maxZoomVerdict, cellVerdict, insertVerdict}
+use Rattle.cell.specs.Refusals.{crossVerdict, mergeVerdict}
 
 -- SETTINGS, and the layout of a cell: 1, 2
 abbrev pub paramsCauses : MicroParams → List Cause
@@ -37,5 +38,6 @@ pub record CellCalls : Type 0 where
   pub max-zoom : (c : ℕ) → Told (maxZoomVerdict c) (2 ∷ []) (maxZoomCauses c)
   pub read : (p : MicroParams) (b : List ℕ) → Told (cellVerdict p b) (1 ∷ 2 ∷ 6 ∷ 14 ∷ []) (cellCauses p b)
   pub insert : (p : MicroParams) (b : List ℕ) (σ : ℕ) → Told (insertVerdict p b σ) (1 ∷ 2 ∷ 5 ∷ 6 ∷ 14 ∷ []) (insertCauses p b σ)
-  pub cross : (p : MicroParams) (n crossed : ℕ) (b : List ℕ) (σ : ℕ) → Told (crossVerdict p n crossed b σ) (1 ∷ 2 ∷ 5 ∷ 6 ∷ 9 ∷ 14 ∷ []) (crossCauses p n crossed b σ)
+  pub cross : (p : MicroParams) (n crossed : ℕ) (b : List ℕ) (σ : ℕ) → Told (crossVerdict p n crossed b σ) (1 ∷ 2 ∷ 5 ∷ 6 ∷ 9 ∷ 14 ∷ [])
+      (crossCauses p n crossed b σ)
   pub merge : (p : MicroParams) (b src : List ℕ) (σ : ℕ) → Told (mergeVerdict p b src σ) (1 ∷ 2 ∷ 5 ∷ 6 ∷ 6 ∷ 14 ∷ 14 ∷ []) (mergeCauses p b src σ)

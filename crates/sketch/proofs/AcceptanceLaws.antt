@@ -139,7 +139,8 @@ acceptance = record {
   merge-looks-at-all = λ k g k' g' s.
       lowest-told (mergeVerdict k g k' g') _ (mergeCauses k g k' g') (sketch-calls .merge k g k' g') .refuses 14 (rw (all-unsound k g s) refl);
   merge-looks-at-other = λ k g k' g' s.
-      lowest-told (mergeVerdict k g k' g') _ (mergeCauses k g k' g') (sketch-calls .merge k g k' g') .refuses 14 (other-applies (firstUnsound (λ i. true) false k g (allCells k)) _ (all-unsound k' g' s));
+      lowest-told (mergeVerdict k g k' g') _ (mergeCauses k g k' g') (sketch-calls .merge k g k' g') .refuses 14
+      (other-applies (firstUnsound (λ i. true) false k g (allCells k)) _ (all-unsound k' g' s));
 }
   where
     other-applies : (a b : Bool) → b ≡ true → a || (b || false) ≡ true

@@ -15,7 +15,9 @@ use Rattle.sketch.specs.Figures.{itemsIn, leastIn, sumBack, linearOf}
 use Rattle.sketch.specs.BenchSheet.{SketchItems}
 
 pub sketch-items : SketchItems
-unfolding recorded insertEach insertAt keyCells moved crossEach eachOf nOf fractionOf insertOf creditOf zoomOutOf divideEach crossOf insideOf closeOf clearOf emptied zoomInFrom zoomedIn timesEach allAtMost ceilingOf roundedDiv shutterOf withShutter numberOf bytesOf maxZoom highest itemsIn leastIn sumBack linearOf least total ofInt add sub mul div
+unfolding recorded insertEach insertAt keyCells moved crossEach eachOf nOf fractionOf insertOf creditOf zoomOutOf divideEach crossOf insideOf closeOf
+    clearOf emptied zoomInFrom zoomedIn timesEach allAtMost ceilingOf roundedDiv shutterOf withShutter numberOf bytesOf maxZoom highest itemsIn
+    leastIn sumBack linearOf least total ofInt add sub mul div
 sketch-items = record {
   item-10 = λ seed. (refl, refl, refl, refl);
   two-rows = λ seed. refl;

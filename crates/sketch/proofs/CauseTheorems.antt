@@ -122,7 +122,8 @@ module _ (k : MicroCm) (g : List ℕ) (k' : MicroCm) (g' : List ℕ) where
   merge-is : mergeVerdict k g k' g' ≡ firstOf (mergeCauses k g k' g')
   merge-is =
       ap (λ (v : Verdict). whenAccepted v otherwise v) either-is
-      ∙ ap (λ (v : Verdict). whenAccepted (firstOf (paired (sketchCauses k g) (sketchCauses k' g'))) v (firstOf (paired (sketchCauses k g) (sketchCauses k' g')))) others-is
+      ∙ ap (λ (v : Verdict). whenAccepted (firstOf (paired (sketchCauses k g) (sketchCauses k' g'))) v
+      (firstOf (paired (sketchCauses k g) (sketchCauses k' g')))) others-is
       ∙ sym (first-append (paired (sketchCauses k g) (sketchCauses k' g')) others)
 
 -- EVERY CALL
@@ -131,7 +132,12 @@ unfolding firstOf numbersOf placeIn rankedFrom paired
 sketch-calls = record {
   fresh = λ rows cols p clock seed g. record { is = refl; numbered = refl; ordered = refl };
   update = λ k key g. record { is = rw (one-cause k g (judgedCells k (tickOf (k .clock)) (keyCells k 0 key)) Accepted) refl; numbered = refl; ordered = refl };
-  update-at = λ k key reading g. record { is = rw (one-cause k g (judgedCells k (advanceOf (k .clock) reading) (keyCells k 0 key)) Accepted) refl; numbered = refl; ordered = refl };
+  update-at =
+      λ k key reading g. record {
+        is = rw (one-cause k g (judgedCells k (advanceOf (k .clock) reading) (keyCells k 0 key)) Accepted) refl;
+        numbered = refl;
+        ordered = refl;
+      };
   advance = λ k reading g. record { is = rw (one-cause k g (judgedCells k (advanceOf (k .clock) reading) []) Accepted) refl; numbered = refl; ordered = refl };
   read = λ k key g. record { is = rw (one-cause k g (keyCells k 0 key) Accepted) refl; numbered = refl; ordered = refl };
   read-with = λ k key fraction g. record { is = rw (one-cause k g (keyCells k 0 key) Accepted) refl; numbered = refl; ordered = refl };

@@ -83,7 +83,8 @@ module _ (rows cols : ℕ) (p : MicroParams) (clock : SubWindowClock) where
 
     module _ (a : not ok ≡ false) where
       room : length g ≡ gridBytes made
-      room = eqb-true _ _ (not-false _ (not-refused 6 (not (eqb (length g) (gridBytes made))) Accepted (gate-passed (settingsOf given) (settings-gate given) (refuseSize (length g)) (sym ev ∙ let-pass v ok asked a) .1) .0))
+      room = eqb-true _ _ (not-false _ (not-refused 6 (not (eqb (length g) (gridBytes made))) Accepted
+          (gate-passed (settingsOf given) (settings-gate given) (refuseSize (length g)) (sym ev ∙ let-pass v ok asked a) .1) .0))
 
       pub fresh-made : (g' : List ℕ) (started : SubWindowClock) (rounding : Rounding) → g' ≡ replicate (length g) 0 → started ≡ startOf clock
           → rounding .state ≡ seeded seed

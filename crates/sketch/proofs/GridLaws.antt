@@ -146,7 +146,8 @@ module _ (k : MicroCm) (fit : Fits k) where
           → P (cellOf k (insertAt k n j g σ .bytes) i)
       unfolding insertAt
       at-keeps j g σ room l all =
-          pieces-splice depth (cellsOf k) j (after n j g σ room l) g l room (long n j g σ room l) (λ i. P) (keeps (cellOf k g j) σ (cell-length k g j room l) (all j l)) all
+          pieces-splice depth (cellsOf k) j (after n j g σ room l) g l room (long n j g σ room l) (λ i. P)
+          (keeps (cellOf k g j) σ (cell-length k g j room l) (all j l)) all
 
       pub insert-each-keeps : (js g : List ℕ) (σ : ℕ) → allBelow (cellsOf k) js ≡ true → Holding k g → ((i : ℕ) → i < cellsOf k → P (cellOf k g i))
           → (i : ℕ) → i < cellsOf k → P (cellOf k (insertEach k n js g σ .bytes) i)
@@ -154,7 +155,8 @@ module _ (k : MicroCm) (fit : Fits k) where
       insert-each-keeps [] g σ low room all = all
       insert-each-keeps (j ∷ js) g σ low room all =
           let l = below-first (cellsOf k) j js low in
-          insert-each-keeps js (insertAt k n j g σ .bytes) (insertAt k n j g σ .state) (below-rest (cellsOf k) j js low) (still-room n j g σ room l) (at-keeps j g σ room l all)
+          insert-each-keeps js (insertAt k n j g σ .bytes) (insertAt k n j g σ .state) (below-rest (cellsOf k) j js low) (still-room n j g σ room l)
+          (at-keeps j g σ room l all)
 
   -- EVERY CELL CROSSED
   module _ (n crossed : ℕ) (g : List ℕ) (σ : ℕ) (room : Holding k g) where
@@ -166,7 +168,8 @@ module _ (k : MicroCm) (fit : Fits k) where
     cross-each-length = each-length (crossCell k n crossed) depth crossed-length (cellsOf k) 0 g σ room
 
     pub cross-each-cell : (j : ℕ) → j < cellsOf k
-        → cellOf k (crossEach k n crossed g σ .bytes) j ≡ crossOf (k .params .t) (k .params .c) n crossed (cellOf k g j) (eachOf (crossCell k n crossed) depth 0 j g σ .state) .bytes
+        → cellOf k (crossEach k n crossed g σ .bytes) j ≡ crossOf (k .params .t) (k .params .c) n crossed (cellOf k g j)
+        (eachOf (crossCell k n crossed) depth 0 j g σ .state) .bytes
     unfolding crossEach
     cross-each-cell j l = each-piece (crossCell k n crossed) depth crossed-length (cellsOf k) 0 j g σ l room
 

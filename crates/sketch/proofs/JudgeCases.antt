@@ -111,7 +111,11 @@ module _ (k : MicroCm) (g : List ℕ) (judged : Verdict) (ej : judged ≡ refuse
 
     pub size-fits : (d : ℕ) → d ≡ depthOf (k .params .t) → k .rows * k .cols * d < 2 ^ 64
     size-fits d ed =
-        omega (arith, product-le (k .rows * k .cols) d (2 ^ 23) 4104 (product-le (k .rows) (k .cols) 128 65536 (good .grid .rows-high) (good .grid .cols-high)) (omega (arith, good .fit .t-high)))
+        omega (
+          arith,
+          product-le (k .rows * k .cols) d (2 ^ 23) 4104
+              (product-le (k .rows) (k .cols) 128 65536 (good .grid .rows-high) (good .grid .cols-high)) (omega (arith, good .fit .t-high)),
+        )
 
     pub t-few : k .params .t ≤ 4096
     t-few = good .fit .t-high

@@ -47,12 +47,14 @@ module _ (k : MicroCm) (fit : Fits k) where
     rows-before row [] g σ h room r col l q = refl
     rows-before row (x ∷ xs) g σ h room r col l q =
         let s = insertAt k n (cellIndex k row x) g σ in
-        rows-before (suc row) xs (s .bytes) (s .state) (key-rest k row x xs h) (still-room k fit n (cellIndex k row x) g σ room (place k row x xs h)) r col (omega arith) q
+        rows-before (suc row) xs (s .bytes) (s .state) (key-rest k row x xs h)
+        (still-room k fit n (cellIndex k row x) g σ room (place k row x xs h)) r col (omega arith) q
         ∙ at-other k fit n (cellIndex k row x) g σ room (place k row x xs h) (cellIndex k r col) (rows-apart (k .cols) r row col x l q)
 
     -- THE KEY HAS THE CELL
     pub key-hit : (row : ℕ) (key g : List ℕ) (σ : ℕ) → KeyFrom k row key → Holding k g → (i : ℕ) → i < length key
-        → (τ : ℕ) × (cellOf k (insertEach k n (keyCells k row key) g σ .bytes) (cellIndex k (row + i) (getD key i 0)) ≡ insertOf (k .params .t) (k .params .c) n (cellOf k g (cellIndex k (row + i) (getD key i 0))) τ .bytes)
+        → (τ : ℕ) × (cellOf k (insertEach k n (keyCells k row key) g σ .bytes) (cellIndex k (row + i) (getD key i 0)) ≡ insertOf (k .params .t)
+        (k .params .c) n (cellOf k g (cellIndex k (row + i) (getD key i 0))) τ .bytes)
     unfolding insertEach keyCells
     key-hit row [] g σ h room i l = absurd (omega arith)
     key-hit row (x ∷ xs) g σ h room zero l =
@@ -60,7 +62,8 @@ module _ (k : MicroCm) (fit : Fits k) where
         let p = place k row x xs h in (
           σ,
           rw (add-zero row)
-              (rows-before (suc row) xs (s .bytes) (s .state) (key-rest k row x xs h) (still-room k fit n (cellIndex k row x) g σ room p) row x (omega arith) (below-first (k .cols) x xs (h .low))
+              (rows-before (suc row) xs (s .bytes) (s .state) (key-rest k row x xs h) (still-room k fit n (cellIndex k row x) g σ room p) row x
+              (omega arith) (below-first (k .cols) x xs (h .low))
               ∙ at-here k fit n (cellIndex k row x) g σ room p),
         )
     key-hit row (x ∷ xs) g σ h room (suc i) l =
@@ -69,7 +72,8 @@ module _ (k : MicroCm) (fit : Fits k) where
         let q : row + suc i ≡ suc row + i = omega arith in
         let r = key-hit (suc row) xs (s .bytes) (s .state) (key-rest k row x xs h) (still-room k fit n (cellIndex k row x) g σ room p) i (omega arith) in
         let o : cellOf k (s .bytes) (cellIndex k (suc row + i) (getD xs i 0)) ≡ cellOf k g (cellIndex k (suc row + i) (getD xs i 0)) =
-        at-other k fit n (cellIndex k row x) g σ room p (cellIndex k (suc row + i) (getD xs i 0)) (λ b. rows-apart (k .cols) row (suc row + i) x (getD xs i 0) (omega arith) (below-first (k .cols) x xs (h .low)) (sym b)) in
+        at-other k fit n (cellIndex k row x) g σ room p (cellIndex k (suc row + i) (getD xs i 0))
+        (λ b. rows-apart (k .cols) row (suc row + i) x (getD xs i 0) (omega arith) (below-first (k .cols) x xs (h .low)) (sym b)) in
         (r .0, rw q (r .1 ∙ rw o refl))
 
     -- THE KEY HAS IT NOT
@@ -90,4 +94,5 @@ module _ (k : MicroCm) (fit : Fits k) where
         let e : row + suc i ≡ suc row + i = omega arith in
         rw e
         (key-miss (suc row) xs (s .bytes) (s .state) (key-rest k row x xs h) (still-room k fit n (cellIndex k row x) g σ room p) i col (omega arith) q ne
-        ∙ at-other k fit n (cellIndex k row x) g σ room p (cellIndex k (suc row + i) col) (λ b. rows-apart (k .cols) row (suc row + i) x col (omega arith) (below-first (k .cols) x xs (h .low)) (sym b)))
+        ∙ at-other k fit n (cellIndex k row x) g σ room p (cellIndex k (suc row + i) col)
+        (λ b. rows-apart (k .cols) row (suc row + i) x col (omega arith) (below-first (k .cols) x xs (h .low)) (sym b)))

@@ -29,7 +29,8 @@ settings-gate k =
     let l = outside 1 (2 ^ 53) (lengthOf (k .clock)) in
     let g = not (gridFits (k .rows) (k .cols)) in
     gate-chain (refuse 1 t) (λ rest. refuse 2 c (refuse 3 l (refuse 4 g rest))) (refuse-then 1 t)
-    (gate-chain (refuse 2 c) (λ rest. refuse 3 l (refuse 4 g rest)) (refuse-then 2 c) (gate-chain (refuse 3 l) (refuse 4 g) (refuse-then 3 l) (refuse-then 4 g)))
+    (gate-chain (refuse 2 c) (λ rest. refuse 3 l (refuse 4 g rest)) (refuse-then 2 c)
+    (gate-chain (refuse 3 l) (refuse 4 g) (refuse-then 3 l) (refuse-then 4 g)))
 
 -- 1 to 5
 abbrev pub judged : MicroCm → Verdict → Verdict
@@ -46,7 +47,8 @@ sketch-gate k g = gate-chain (judged k) (refuseGrid k g) (judged-gate k) (refuse
 pub unsound-gate : (k : MicroCm) (g cells : List ℕ) → Gate (refuseUnsound k g cells)
 unfolding firstUnsound
 unsound-gate k g [] rest = refl
-unsound-gate k g (j ∷ js) rest = by (soundOf (k .params .t) (k .params .c) (cellOf k g j)) (refuseUnsound k g js rest) (refuseUnsound k g js Accepted) (unsound-gate k g js rest)
+unsound-gate k g (j ∷ js) rest = by (soundOf (k .params .t) (k .params .c) (cellOf k g j)) (refuseUnsound k g js rest)
+    (refuseUnsound k g js Accepted) (unsound-gate k g js rest)
   where
     by : (x : Bool) (v w : Verdict) → v ≡ whenAccepted w rest w → cond x v (Unsound j) ≡ whenAccepted (cond x w (Unsound j)) rest (cond x w (Unsound j))
     by true v w e = e

@@ -57,7 +57,8 @@ module _ (k : MicroCm) (g : List ℕ) (σ : ℕ) (fit : Fits k) (h : Good k g σ
   insert-each-good n js low = record {
     whole = insert-each-length k fit n js g σ low room ∙ h .whole;
     alive = rw (insert-each-drawn k fit n js g σ low room) (after-nonzero (insertEach k n js g σ .draws) σ (h .alive));
-    sound = insert-each-keeps k fit n (λ b. soundOf (k .params .t) (k .params .c) b ≡ true) (λ b τ e. inserted (k .params .t) (k .params .c) n b τ (fits-cell k fit b e) .sound) js g σ low room (h .sound);
+    sound = insert-each-keeps k fit n (λ b. soundOf (k .params .t) (k .params .c) b ≡ true)
+        (λ b τ e. inserted (k .params .t) (k .params .c) n b τ (fits-cell k fit b e) .sound) js g σ low room (h .sound);
   }
 
   -- CROSSING
@@ -69,10 +70,12 @@ module _ (k : MicroCm) (g : List ℕ) (σ : ℕ) (fit : Fits k) (h : Good k g σ
   }
 
 -- 14 NEVER ARISES: no cell of those judged is unsound
-pub none-unsound {ℓ} : {A : Type ℓ} (found : ℕ → A) (none : A) (k : MicroCm) (g : List ℕ) (σ : ℕ) → Good k g σ → (js : List ℕ) → allBelow (cellsOf k) js ≡ true → firstUnsound found none k g js ≡ none
+pub none-unsound {ℓ} : {A : Type ℓ} (found : ℕ → A) (none : A) (k : MicroCm) (g : List ℕ) (σ : ℕ) → Good k g σ → (js : List ℕ)
+    → allBelow (cellsOf k) js ≡ true → firstUnsound found none k g js ≡ none
 unfolding firstUnsound
 none-unsound found none k g σ h [] low = refl
-none-unsound found none k g σ h (j ∷ js) low = rw (h .sound j (below-first (cellsOf k) j js low)) (none-unsound found none k g σ h js (below-rest (cellsOf k) j js low))
+none-unsound found none k g σ h (j ∷ js) low = rw (h .sound j (below-first (cellsOf k) j js low))
+    (none-unsound found none k g σ h js (below-rest (cellsOf k) j js low))
 
 -- every cell in grid order is a cell of the grid
 count-below : (m first count : ℕ) → first + count ≤ m → allBelow m (countFrom first count) ≡ true
@@ -133,7 +136,8 @@ module _ (k : MicroCm) where
   fresh-good fit seed = record {
     whole = length-replicate (gridBytes k) 0;
     alive = seeded-nonzero seed;
-    sound = λ j l. sound-empty (k .params .t) (k .params .c) (cellOf k (freshGrid k) j) (fit .c-low) (rw (fresh-byte j (zoomAt (k .params .t))) (omega arith)) (fresh-shutter j);
+    sound = λ j l. sound-empty (k .params .t) (k .params .c) (cellOf k (freshGrid k) j) (fit .c-low)
+        (rw (fresh-byte j (zoomAt (k .params .t))) (omega arith)) (fresh-shutter j);
   }
 
 -- accepted settings give a cell its depth

@@ -32,7 +32,8 @@ module _ (k : MicroCm) (n : ℕ) (other g : List ℕ) (σ : ℕ) (ok : SoundCell
   cell-fit l j room h = rw (part-length (j * depth) depth l (piece-room depth (cellsOf k) j (length l) h room)) (ok .fit)
 
   leaves : (j τ : ℕ) → j < cellsOf k → Merged (k .params .t) (k .params .c) (cellOf k g j) τ (mergeCell k n other j (cellOf k g j) τ)
-  leaves j τ h = merged-leaves (k .params .t) (k .params .c) n (cellOf k g j) (cellOf k other j) τ (cell-fit g j (ok .room) h) (cell-fit other j (ok' .room) h) (ok .sound j h) (ok' .sound j h)
+  leaves j τ h = merged-leaves (k .params .t) (k .params .c) n (cellOf k g j) (cellOf k other j) τ (cell-fit g j (ok .room) h)
+      (cell-fit other j (ok' .room) h) (ok .sound j h) (ok' .sound j h)
 
   pub merge-each-sound : (j : ℕ) → j < cellsOf k → soundOf (k .params .t) (k .params .c) (cellOf k (mergeEach k n other g σ .bytes) j) ≡ true
   unfolding mergeEach

@@ -21,14 +21,16 @@ pub aged-is : (u o : Exact) (fraction : Float) (oldest : ℕ) → u .value ≡ f
     } ≡ agedEstimate (u .whole) oldest fraction
 aged-is u o fraction oldest e q = rw (q, e) refl
 
-module _ (k : MicroCm) (g key : List ℕ) (n t : ℕ) (en : n ≡ nOf (k .clock)) (et : t ≡ k .params .t) (some : 1 ≤ k .params .t) (u : Exact) (eu : u ≡ exactly (underOf k g key))
+module _ (k : MicroCm) (g key : List ℕ) (n t : ℕ) (en : n ≡ nOf (k .clock)) (et : t ≡ k .params .t) (some : 1 ≤ k .params .t) (u : Exact)
+    (eu : u ≡ exactly (underOf k g key))
   where
     pub young-is : (fraction : Float) (r : Estimated) → n < t → r ≡ youngEstimate u fraction → r ≡ estimateOf k g key fraction
     young-is fraction r h e =
         let h' : nOf (k .clock) < k .params .t = omega arith in
         e ∙ rw (eu, over-young k g key some h', linear-young k g key some fraction h') refl
 
-    pub old-is : (oldest : ℕ) (fraction : Float) (r : Estimated) → t ≤ n → oldest ≡ leastIn k g key (n - t) → r ≡ agedEstimate (u .whole) oldest fraction → r ≡ estimateOf k g key fraction
+    pub old-is : (oldest : ℕ) (fraction : Float) (r : Estimated) → t ≤ n → oldest ≡ leastIn k g key (n - t)
+        → r ≡ agedEstimate (u .whole) oldest fraction → r ≡ estimateOf k g key fraction
     old-is oldest fraction r h e q =
         let h' : k .params .t ≤ nOf (k .clock) = omega arith in
         let o : oldest ≡ oldestOf k g key = e ∙ rw (en, et) refl in

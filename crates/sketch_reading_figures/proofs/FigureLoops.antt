@@ -48,7 +48,13 @@ module _ (k : MicroCm) (g key : List ℕ) where
   module _ (units : List ℕ) (row : ℕ) (w : Filling units row) where
     pub filling-on : (unit : ℕ) → row < k .rows → k .rows ≤ 128 → unit ≡ rowUnit k g key row → Filling (set units row unit) (row + 1)
     filling-on unit h few e =
-        record { found = below-more (λ r. getD (set units row unit) r 0 ≡ rowUnit k g key r) row (λ r l. getD-set-other units row r unit 0 (λ q. omega arith) ∙ w .found r l) here; whole = length-set units row unit ∙ w .whole; below = omega arith }
+        record {
+          found =
+              below-more (λ r. getD (set units row unit) r 0 ≡ rowUnit k g key r) row
+              (λ r l. getD-set-other units row r unit 0 (λ q. omega arith) ∙ w .found r l) here;
+          whole = length-set units row unit ∙ w .whole;
+          below = omega arith;
+        }
       where
         here : getD (set units row unit) row 0 ≡ rowUnit k g key row
         here = getD-set-same units row unit 0 (omega (arith, w .whole)) ∙ e
@@ -73,7 +79,12 @@ module _ (k : MicroCm) (g key : List ℕ) where
   module _ (j value row : ℕ) (w : Leasting j value row) where
     pub leasting-on : (items smaller : ℕ) → row < k .rows → items ≡ rowItems k g key j row → smaller ≡ min value items → Leasting j smaller (row + 1)
     leasting-on items smaller h e s =
-        record { is = s ∙ rw (w .is, e) (sym (least-next row (rowItems k g key j) (w .some))); low = omega (arith, w .low); some = omega arith; below = omega arith }
+        record {
+          is = s ∙ rw (w .is, e) (sym (least-next row (rowItems k g key j) (w .some)));
+          low = omega (arith, w .low);
+          some = omega arith;
+          below = omega arith;
+        }
 
     pub leasting-end : k .rows ≤ row → value ≡ leastIn k g key j
     unfolding leastIn
@@ -87,7 +98,8 @@ module _ (k : MicroCm) (g key : List ℕ) where
     pub few : sum .whole ≤ (back + 1) * most
     pub within : back ≤ last
 
-  pub summing-begin : (n last value : ℕ) (sum : Exact) → n ≡ nOf (k .clock) → value ≡ leastIn k g key n → value ≤ most → sum ≡ exactly value → Summing last 0 sum
+  pub summing-begin : (n last value : ℕ) (sum : Exact) → n ≡ nOf (k .clock) → value ≡ leastIn k g key n → value ≤ most → sum ≡ exactly value
+      → Summing last 0 sum
   unfolding total
   summing-begin n last value sum en e l es =
       let now : value ≡ leastBack k g key 0 = e ∙ rw (en, sub-zero) refl in
@@ -101,7 +113,8 @@ module _ (k : MicroCm) (g key : List ℕ) where
       pub summing-room : (items : ℕ) → items ≤ most → sum .whole + items ≤ 2 ^ 53
       summing-room items l = omega (arith, w .few)
 
-      pub summing-on : (n items : ℕ) (next : Exact) → n ≡ nOf (k .clock) → items ≡ leastIn k g key (n - (back + 1)) → items ≤ most → next ≡ exactly (sum .whole + items)
+      pub summing-on : (n items : ℕ) (next : Exact) → n ≡ nOf (k .clock) → items ≡ leastIn k g key (n - (back + 1)) → items ≤ most
+          → next ≡ exactly (sum .whole + items)
           → Summing last (back + 1) next
       unfolding total
       summing-on n items next en e l es =

@@ -22,7 +22,8 @@ grid-is k g store = rw (one-cause k (gridIn k store) (allCells k) Accepted) refl
 
 load-is : (g store : List ℕ) → loadVerdict g store ≡ firstOf (loadCauses g store)
 unfolding firstOf
-load-is g store = ap (λ (v : Verdict). refuseBlocks store v) (ap by (header-calls .header p) ∙ ap goes-on (grid-is k g store) ∙ sym (first-append (headerCauses p) (gridCauses k g store)))
+load-is g store = ap (λ (v : Verdict). refuseBlocks store v)
+    (ap by (header-calls .header p) ∙ ap goes-on (grid-is k g store) ∙ sym (first-append (headerCauses p) (gridCauses k g store)))
   where
     p : List ℕ
     p = headerPayload store

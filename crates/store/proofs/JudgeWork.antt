@@ -118,7 +118,8 @@ module _ (k : MicroCm) (store : List ℕ) (count depth : ℕ) where
               let e : at ≡ index * depthOf (k .params .t) = w .place ∙ rw ed in
               let room : index * depthOf (k .params .t) + depthOf (k .params .t) ≤ gridBytes k = rw ed at inside in
               er
-              ∙ ap (soundOf (k .params .t) (k .params .c)) (rw e (sym (part-take (index * depthOf (k .params .t)) (depthOf (k .params .t)) (gridBytes k) (carried store) room)))
+              ∙ ap (soundOf (k .params .t) (k .params .c)) (rw e
+              (sym (part-take (index * depthOf (k .params .t)) (depthOf (k .params .t)) (gridBytes k) (carried store) room)))
 
           pub judging-found : not r ≡ true → Unsound index ≡ refuseUnsound k (gridIn k store) (allCells k) Accepted
           judging-found n = all-found k (gridIn k store) count index (w .left) more r sound-is ec n

@@ -51,7 +51,8 @@ store-written k g b u v header long eh eu ev =
     let l0 : length (u ++ drop 512 b) ≡ 512 + 512 * gridBlocks k = length-append u (drop 512 b) ∙ rw (lu, lr) in
     let l1 : length (u ++ drop 512 b) - 512 ≡ 512 * gridBlocks k = omega (arith, l0) in
     let behind : drop 512 (u ++ drop 512 b) ≡ drop 512 b = drop-at u (drop 512 b) 512 lu in
-    let count : length (take (512 * gridBlocks k) (drop 512 b)) / 512 ≡ gridBlocks k = ap (λ (l : List ℕ). length l / 512) (take-all (512 * gridBlocks k) (drop 512 b) (omega arith)) ∙ rw lr (omega arith) in
+    let count : length (take (512 * gridBlocks k) (drop 512 b)) / 512 ≡ gridBlocks k = ap (λ (l : List ℕ). length l / 512)
+    (take-all (512 * gridBlocks k) (drop 512 b) (omega arith)) ∙ rw lr (omega arith) in
     let short : length (drop 512 b) ≤ 512 * gridBlocks k = omega (arith, lr) in
     let none : drop (512 * gridBlocks k) (drop 512 b) ≡ [] = drop-of-length-le (drop 512 b) short in
     let rest : v ≡ blocksFrom 1 (gridBlocks k) g = ev ∙ rw (l1, behind, count) in
@@ -64,7 +65,8 @@ module _ (k : MicroCm) (g store : List ℕ) where
 
   module _ (v : Verdict) (ok : Bool) (ev : v ≡ sketchVerdict k g) (asked : ok ≡ isAccepted v) where
     pub save-refused : not ok ≡ true → saveOutcome v store ≡ saveCall k g store
-    save-refused h = unsaved v (turned-back v ok asked h) (gate-shut (refuseSketch k g) (sketch-gate k g) (refuseUnsound k g (allCells k) (refuseLength k store Accepted)) v ev (turned-back v ok asked h))
+    save-refused h = unsaved v (turned-back v ok asked h) (gate-shut (refuseSketch k g) (sketch-gate k g)
+        (refuseUnsound k g (allCells k) (refuseLength k store Accepted)) v ev (turned-back v ok asked h))
 
     module _ (h : not ok ≡ false) where
       pub save-good : numbersVerdict k ≡ Accepted

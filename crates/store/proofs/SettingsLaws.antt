@@ -26,7 +26,8 @@ pub record Ranged (k : MicroCm) : Type 0 where
 
 module _ (k : MicroCm) (good : numbersVerdict k ≡ Accepted) where
   pub settings-good : GoodSettings (k .rows) (k .cols) (k .params) (k .clock)
-  settings-good = good-settings (k .rows) (k .cols) (k .params) (k .clock) (gate-passed (settingsOf k) (settings-gate k) (refuseState (k .rounding .state) Accepted) good .0)
+  settings-good = good-settings (k .rows) (k .cols) (k .params) (k .clock)
+      (gate-passed (settingsOf k) (settings-gate k) (refuseState (k .rounding .state) Accepted) good .0)
 
   pub settings-fit : Ranged k → Fits k
   settings-fit r =

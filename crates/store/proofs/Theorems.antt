@@ -109,7 +109,8 @@ module _ (g store : List ℕ) (loaded : loadVerdict g store ≡ Accepted) where
   load-usable rest =
       gate-open (judged (sketchOf store)) (judged-gate (sketchOf store)) _ (able-to .good)
       ∙ rw (eq-eqb _ _ grid-long)
-      (gate-open (refuseUnsound (sketchOf store) (gridOf store) (allCells (sketchOf store))) (unsound-gate (sketchOf store) (gridOf store) (allCells (sketchOf store))) rest (able-to .kept .sound))
+      (gate-open (refuseUnsound (sketchOf store) (gridOf store) (allCells (sketchOf store)))
+      (unsound-gate (sketchOf store) (gridOf store) (allCells (sketchOf store))) rest (able-to .kept .sound))
 
   -- LOAD, THEN SAVE
   module _ (small : Small store) where

@@ -136,7 +136,8 @@ module _ (p : List ℕ) where
       record { form = eqb-true _ _ (not-false _ a); kind = ltb-false _ _ b; rest = not-false _ c; epoch = d }
 
   header-parts : take 56 p
-      ≡ part 0 4 p ++ (part 4 4 p ++ (part 8 4 p ++ (part 12 4 p ++ (part 16 4 p ++ (part 20 4 p ++ (part 24 8 p ++ (part 32 8 p ++ (part 40 8 p ++ part 48 8 p))))))))
+      ≡ part 0 4 p ++ (part 4 4 p ++ (part 8 4 p ++ (part 12 4 p ++
+      (part 16 4 p ++ (part 20 4 p ++ (part 24 8 p ++ (part 32 8 p ++ (part 40 8 p ++ part 48 8 p))))))))
   header-parts = rw (
     part-join 0 4 52 p,
     part-join 4 4 48 p,

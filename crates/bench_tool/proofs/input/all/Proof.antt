@@ -6,7 +6,8 @@ use Rattle.bench_tool.proofs.input.all.Statement.{statement}
 use Rattle.bench_tool.proofs.input.all.Tie as tie
 
 abbrev Inv-loop : tie.InvT-loop
-Inv-loop buffer₀ grids₀ store₀ columns₀ limits₀ session₀ turns₀ buffer grids store columns limits session turns = (length buffer ≡ length buffer₀) × (length grids ≡ length grids₀) × (length store ≡ length store₀)
+Inv-loop buffer₀ grids₀ store₀ columns₀ limits₀ session₀ turns₀ buffer grids store columns limits session turns =
+    (length buffer ≡ length buffer₀) × (length grids ≡ length grids₀) × (length store ≡ length store₀)
 
 abbrev μ-loop : tie.MeasureT-loop
 μ-loop buffer₀ grids₀ store₀ columns₀ limits₀ session₀ turns₀ buffer grids store columns limits session turns = turns

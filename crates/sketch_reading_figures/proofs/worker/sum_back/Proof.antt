@@ -41,7 +41,8 @@ loop-less c = search needs
 -- `search` stands outside the `let`: a name bound there is one more record for it to enter, and it enters 128
 loop-again : tie.Need-loop-again Inv-loop μ-loop
 loop-again c =
-    (let turn = c .before .before in summing-on _ _ _ _ _ _ (turn .before .loop .inv)) (search needs) (search needs) _ _ _ (search needs) (c .before .least-in2 .ensures .0)
+    (let turn = c .before .before in summing-on _ _ _ _ _ _ (turn .before .loop .inv)) (search needs) (search needs) _ _ _ (search needs)
+    (c .before .least-in2 .ensures .0)
     (search needs) (c .plus .ensures)
 
 returns : tie.Need-returns Inv-loop μ-loop
