@@ -14,6 +14,7 @@ use Rattle.cell.specs.Cell.{zoomAt, zoomOf, maxZoom}
 use Rattle.cell.proofs.PowerLaws.{zoom-below}
 use Rattle.clock.specs.Clock.{nOf}
 use Rattle.clock.proofs.ClockLaws.{start-n}
+use Rattle.sketch.proofs.AddressLaws.{product-le}
 use Rattle.sketch.specs.declared.MicroCm.{MicroCm}
 use Rattle.sketch.specs.Sketch.{cellOf}
 use Rattle.sketch.specs.Figures.{itemsIn, leastIn, sumBack, overOf}
@@ -29,9 +30,6 @@ use Rattle.band.proofs.Reached.{sketchOf, fit, sketch-is, fresh-reached
 use Rattle.band.proofs.Steps.{reached}
 use Rattle.band.proofs.CellKept.{Keeps, run-keeps}
 use Rattle.band.proofs.History as H
-
-product-le : (a b p q : ℕ) → a ≤ p → b ≤ q → a * b ≤ p * q
-product-le a b p q h l = le-trans (mul-le-mul-left a l) (mul-le-mul-right q h)
 
 -- WHAT A CELL SAYS of the present sub-window, and of a past one
 module _ (t c M n : ℕ) (x : ℕ → ℕ) (b : List ℕ) (h : Holds t c M n x b) where

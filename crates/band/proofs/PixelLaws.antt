@@ -10,7 +10,7 @@ use native.Mathlib.Decide.{ℕ-discrete}
 use Rattle.cell.specs.Cell.{pixelsOf, depthOf, slotOf, pixelsIn, pixelOf, zoomOf, withPixel, withPixels}
 use Rattle.cell.specs.Crossing.{clearOf, emptied, timesEach, zoomedIn}
 use Rattle.cell.specs.Workers.{Fit}
-use Rattle.sketch.proofs.GridLaws.{times-length}
+use Rattle.cell.proofs.CrossingLaws.{times-length}
 use Rattle.cell.proofs.CellLaws.{slot-inside, with-zoom-pixel, with-pixels-pixel, with-pixels-zoom, with-shutter-pixel, with-shutter-zoom}
 
 -- CLEAR: a slot that is none of those cleared stays

@@ -161,7 +161,7 @@ module _ (t c n crossed : ℕ) (b : List ℕ) (σ : ℕ) (fit : Fit t c (length 
       })
 
 -- ZOOM IN
-times-length : (c : ℕ) (l : List ℕ) → length (timesEach c l) ≡ length l
+pub times-length : (c : ℕ) (l : List ℕ) → length (timesEach c l) ≡ length l
 unfolding timesEach
 times-length c [] = refl
 times-length c (x ∷ xs) = ap suc (times-length c xs)

@@ -20,7 +20,7 @@ use Rattle.cell.specs.Insertion.{insertOf}
 use Rattle.cell.specs.Crossing.{insideOf, ceilingOf, allAtMost, timesEach, zoomedIn, zoomInFrom, zoomInOf, crossOf}
 use Rattle.cell.specs.Workers.{Fit}
 use Rattle.cell.proofs.InsertionLaws.{inserted}
-use Rattle.cell.proofs.CrossingLaws.{inside-quiet, Crossed, crossed-leaves}
+use Rattle.cell.proofs.CrossingLaws.{inside-quiet, Crossed, crossed-leaves, times-length}
 use Rattle.sketch.specs.declared.MicroCm.{MicroCm}
 use Rattle.sketch.specs.Sketch.{cellsOf, cellOf, insertAt, insertEach, crossCell, crossEach}
 use Rattle.sketch.specs.Refusals.{allBelow}
@@ -52,11 +52,6 @@ module _ (k : MicroCm) where
       part-length (j * d) d g (piece-room d (cellsOf k) j (length g) l room)
 
 -- A CROSSING leaves as many bytes, whether the cell is sound or not
-pub times-length : (c : ℕ) (l : List ℕ) → length (timesEach c l) ≡ length l
-unfolding timesEach
-times-length c [] = refl
-times-length c (x ∷ xs) = ap suc (times-length c xs)
-
 zoomed-length : (t c z : ℕ) (b : List ℕ) → length (zoomedIn t c z b) ≡ length b
 unfolding zoomedIn
 zoomed-length t c z b = length-set (withPixels t (timesEach c (pixelsIn t b)) b) (zoomAt t) z
