@@ -1,6 +1,6 @@
 -- The calls from verdict to answer: either way out is what the definition gives there.
 use Prim.Native.Nat.{ℕ}
-use mathlib.Core.Path.{_≡_, refl, ap, _∙_}
+use mathlib.Core.Path.{_≡_, refl, sym, ap, _∙_}
 use mathlib.Core.Bool.{Bool, true, false, not}
 use mathlib.Core.List.{List}
 use lib.Dec.{eqb}
@@ -9,8 +9,9 @@ use native.Mathlib.Nat.{zero-add}
 use borrow.Author.Tests.{eq-eqb, ne-eqb}
 use Rattle.laws.specs.Steps.{Step}
 use Rattle.refusal.specs.declared.Verdict.{Verdict}
-use Rattle.refusal.specs.Refusals.{isAccepted, refuse}
-use Rattle.refusal.proofs.VerdictLaws.{refused-leaves, turned-back, let-pass}
+use Rattle.refusal.specs.declared.Verdict.the-variants.{Accepted}
+use Rattle.refusal.specs.Refusals.{isAccepted, refuse, andThen}
+use Rattle.refusal.proofs.VerdictLaws.{refused-leaves, turned-back, let-pass, refuse-then}
 use Rattle.clock.specs.declared.SubWindowClock.{SubWindowClock}
 use Rattle.clock.specs.Clock.{nOf, isCount, tickOf, advanceOf}
 use Rattle.clock.specs.Workers.{Onward}
@@ -50,12 +51,16 @@ module _ (k : MicroCm) (key g l : List ℕ) (old new n : ℕ) (r : Counted) (ec 
   counted : not ok ≡ false → countedOf l r ≡ itemOf k key old new n g
   counted a = ec ∙ rw (let-pass (r .verdict) ok asked a) refl
 
-module _ (k : MicroCm) (g : List ℕ) (clock : SubWindowClock) (counts : Bool) (ek : counts ≡ isCount (k .clock)) where
+-- the kind of the clock, judged before 1 to 7 are
+kind-told : (wrong : Bool) (between : Verdict) → between ≡ refuse 8 wrong Accepted → (rest : Verdict) → andThen between rest ≡ refuse 8 wrong rest
+kind-told wrong between e rest = rw e (sym (refuse-then 8 wrong rest))
+
+module _ (k : MicroCm) (g : List ℕ) (clock : SubWindowClock) (counts : Bool) (ek : counts ≡ isCount (k .clock)) (between : Verdict) where
   -- `update`
-  module _ (key l : List ℕ) (old new n : ℕ) (r : Counted) (on : Onward (k .clock) (tickOf (k .clock)) clock) (ev : r .verdict ≡ itemVerdict k key g clock (refuse 8 (not counts)))
+  module _ (key l : List ℕ) (old new n : ℕ) (r : Counted) (on : Onward (k .clock) (tickOf (k .clock)) clock) (eb : between ≡ refuse 8 (not counts) Accepted) (ev : r .verdict ≡ itemVerdict k key g clock (andThen between))
       (ec : countedOf l r ≡ itemCounted (r .verdict) k key old new n g) (ok : Bool) (asked : ok ≡ isAccepted (r .verdict)) where
     update-told : r .verdict ≡ updateVerdict k key g
-    update-told = ev ∙ rw (on .is, ek) refl
+    update-told = ev ∙ rw (kind-told (not counts) between eb _, on .is, ek) refl
 
     pub update-refused : not ok ≡ true → sketchOutcome (record { verdict = r .verdict; sketch = k; draws = 0 }) l ≡ updateCall k key g
     unfolding updateCall
@@ -68,11 +73,11 @@ module _ (k : MicroCm) (g : List ℕ) (clock : SubWindowClock) (counts : Bool) (
         rw ey (as-done (r .verdict) (updateVerdict k key g) update-told ok asked (updated key (world k g)) (world k g) a w
         (ap (left k clock) (counted k key g l old new n r ec ok asked a ∙ rw own refl) ∙ item-first k key g clock old new (at .before-is) (at .after-is) ∙ rw (on .is) refl))
 
-  module _ (timestamp : ℕ) (on : Onward (k .clock) (advanceOf (k .clock) timestamp) clock) where
+  module _ (timestamp : ℕ) (on : Onward (k .clock) (advanceOf (k .clock) timestamp) clock) (eb : between ≡ refuse 8 counts Accepted) where
     -- `update_at`
-    module _ (key l : List ℕ) (old new n : ℕ) (r : Counted) (ev : r .verdict ≡ itemVerdict k key g clock (refuse 8 counts)) (ec : countedOf l r ≡ itemCounted (r .verdict) k key old new n g) (ok : Bool) (asked : ok ≡ isAccepted (r .verdict)) where
+    module _ (key l : List ℕ) (old new n : ℕ) (r : Counted) (ev : r .verdict ≡ itemVerdict k key g clock (andThen between)) (ec : countedOf l r ≡ itemCounted (r .verdict) k key old new n g) (ok : Bool) (asked : ok ≡ isAccepted (r .verdict)) where
       update-at-told : r .verdict ≡ updateAtVerdict k key timestamp g
-      update-at-told = ev ∙ rw (on .is, ek) refl
+      update-at-told = ev ∙ rw (kind-told counts between eb _, on .is, ek) refl
 
       pub update-at-refused : not ok ≡ true → sketchOutcome (record { verdict = r .verdict; sketch = k; draws = 0 }) l ≡ updateAtCall k key timestamp g
       unfolding updateAtCall
@@ -86,9 +91,9 @@ module _ (k : MicroCm) (g : List ℕ) (clock : SubWindowClock) (counts : Bool) (
           (ap (left k clock) (counted k key g l old new n r ec ok asked a ∙ rw own refl) ∙ item-last k key g clock old new (at .before-is) (at .after-is) ∙ rw (on .is) refl))
 
     -- `advance_to`
-    module _ (v : Verdict) (ev : v ≡ moveVerdict k g clock (refuse 8 counts)) (ok : Bool) (asked : ok ≡ isAccepted v) where
+    module _ (v : Verdict) (ev : v ≡ moveVerdict k g clock (andThen between)) (ok : Bool) (asked : ok ≡ isAccepted v) where
       advance-told : v ≡ advanceVerdict k timestamp g
-      advance-told = ev ∙ rw (on .is, ek) refl
+      advance-told = ev ∙ rw (kind-told counts between eb _, on .is, ek) refl
 
       pub advance-refused : not ok ≡ true → sketchOutcome (record { verdict = v; sketch = k; draws = 0 }) g ≡ advanceCall k timestamp g
       unfolding advanceCall

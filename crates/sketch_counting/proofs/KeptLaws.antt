@@ -10,9 +10,9 @@ use borrow.Author.Tests.{eqb-false, ne-eqb, not-true}
 use Rattle.laws.specs.Steps.{Step}
 use Rattle.refusal.specs.declared.Verdict.{Verdict}
 use Rattle.refusal.specs.declared.Verdict.the-variants.{Accepted, Unsound}
-use Rattle.refusal.specs.Refusals.{isAccepted, refuse}
-use Rattle.refusal.proofs.VerdictLaws.{let-pass, not-refused}
-use Rattle.refusal.proofs.GateLaws.{gate-passed}
+use Rattle.refusal.specs.Refusals.{isAccepted, andThen}
+use Rattle.refusal.proofs.VerdictLaws.{let-pass}
+use Rattle.refusal.proofs.GateLaws.{both-accepted, gate-passed}
 use Rattle.clock.specs.declared.SubWindowClock.{SubWindowClock}
 use Rattle.clock.specs.Clock.{nOf}
 use Rattle.sketch.specs.declared.MicroCm.{MicroCm}
@@ -38,18 +38,18 @@ good-of : (k : MicroCm) (g : List ℕ) → sketchVerdict k g ≡ Accepted → Ju
 good-of k g e w = record { whole = ready-of k g e .size-is; alive = alive-of k g e; sound = λ j l. judged-all k g j w l }
 
 -- AN ITEM that was accepted
-module _ (k : MicroCm) (key g : List ℕ) (clock : SubWindowClock) (wrong : Bool) (v : Verdict) (ev : v ≡ itemVerdict k key g clock (refuse 8 wrong)) (ok : Bool) (asked : ok ≡ isAccepted v) (a : not ok ≡ false) where
+module _ (k : MicroCm) (key g : List ℕ) (clock : SubWindowClock) (between v : Verdict) (ev : v ≡ itemVerdict k key g clock (andThen between)) (ok : Bool) (asked : ok ≡ isAccepted v) (a : not ok ≡ false) where
   abbrev cells : Verdict
   cells = refuseUnsound k g (judgedCells k clock (keyCells k 0 key)) Accepted
 
-  passed : (keyed k key g Accepted ≡ Accepted) × (refuse 8 wrong cells ≡ Accepted)
-  passed = gate-passed (keyed k key g) (keyed-gate k key g) (refuse 8 wrong cells) (sym ev ∙ let-pass v ok asked a)
+  passed : (keyed k key g Accepted ≡ Accepted) × (andThen between cells ≡ Accepted)
+  passed = gate-passed (keyed k key g) (keyed-gate k key g) (andThen between cells) (sym ev ∙ let-pass v ok asked a)
 
   whole : sketchVerdict k g ≡ Accepted
   whole = gate-passed (refuseSketch k g) (sketch-gate k g) (refuseKey k key Accepted) (passed .0) .0
 
   judged : Judged k g (judgedCells k clock (keyCells k 0 key))
-  judged = not-refused 8 wrong cells (passed .1) .1
+  judged = both-accepted between cells (passed .1) .1
 
   ready : Ready k (length g)
   ready = ready-of k g whole
@@ -131,12 +131,12 @@ module _ (k : MicroCm) (key g : List ℕ) (clock : SubWindowClock) (wrong : Bool
   few-draws-more x y z hx hy hz = omega (arith, cells-few k (length g) ready)
 
 -- NO ITEM, accepted
-module _ (k : MicroCm) (g : List ℕ) (clock : SubWindowClock) (wrong : Bool) (v : Verdict) (ev : v ≡ moveVerdict k g clock (refuse 8 wrong)) (ok : Bool) (asked : ok ≡ isAccepted v) (a : not ok ≡ false) where
+module _ (k : MicroCm) (g : List ℕ) (clock : SubWindowClock) (between v : Verdict) (ev : v ≡ moveVerdict k g clock (andThen between)) (ok : Bool) (asked : ok ≡ isAccepted v) (a : not ok ≡ false) where
   abbrev all : Verdict
   all = refuseUnsound k g (judgedCells k clock []) Accepted
 
-  let-through : (sketchVerdict k g ≡ Accepted) × (refuse 8 wrong all ≡ Accepted)
-  let-through = gate-passed (refuseSketch k g) (sketch-gate k g) (refuse 8 wrong all) (sym ev ∙ let-pass v ok asked a)
+  let-through : (sketchVerdict k g ≡ Accepted) × (andThen between all ≡ Accepted)
+  let-through = gate-passed (refuseSketch k g) (sketch-gate k g) (andThen between all) (sym ev ∙ let-pass v ok asked a)
 
   move-ready : Ready k (length g)
   move-ready = ready-of k g (let-through .0)
@@ -146,4 +146,4 @@ module _ (k : MicroCm) (g : List ℕ) (clock : SubWindowClock) (wrong : Bool) (v
 
   pub move-sound : (old new : ℕ) → old ≡ nOf (k .clock) → new ≡ nOf clock → (new ≡ old → ⊥) → SoundCells (k .params .t) (k .params .c) (k .rows * k .cols) g
   move-sound old new eo en rose =
-      sound-cells k g move-ready (rose-all k g clock [] (not-refused 8 wrong all (let-through .1) .1) (λ e. rose (en ∙ e ∙ sym eo)))
+      sound-cells k g move-ready (rose-all k g clock [] (both-accepted between all (let-through .1) .1) (λ e. rose (en ∙ e ∙ sym eo)))

@@ -1,4 +1,4 @@
--- The ways through a verdict on an item or a move: the sketch and the key, then the kind of the clock, then the cells. Assumes nothing.
+-- The ways through a verdict on an item or a move: the sketch and the key, then what is asked between 7 and 14, then the cells. Assumes nothing.
 use Prim.Native.Nat.{ℕ}
 use mathlib.Core.Path.{_≡_, refl, sym, _∙_}
 use mathlib.Core.Bool.{Bool, true, false, not}
@@ -7,9 +7,9 @@ use lib.Dec.{eqb}
 use lib.ListN.{length}
 use borrow.Author.Tests.{not-true, not-false}
 use Rattle.refusal.specs.declared.Verdict.{Verdict}
-use Rattle.refusal.specs.declared.Verdict.the-variants.{Accepted, Refused}
-use Rattle.refusal.specs.Refusals.{isAccepted, refuse}
-use Rattle.refusal.proofs.VerdictLaws.{turned-back, let-pass, refuse-then}
+use Rattle.refusal.specs.declared.Verdict.the-variants.{Accepted}
+use Rattle.refusal.specs.Refusals.{isAccepted, andThen}
+use Rattle.refusal.proofs.VerdictLaws.{refused-leaves, turned-back, let-pass, refuse-then}
 use Rattle.refusal.proofs.GateLaws.{Gate, gate-chain, gate-open, gate-shut}
 use Rattle.clock.specs.declared.SubWindowClock.{SubWindowClock}
 use Rattle.clock.specs.Clock.{nOf}
@@ -41,8 +41,8 @@ module _ (k : MicroCm) (g : List ℕ) (after : SubWindowClock) (rises : Bool) (e
   cells-stay h = rw (not-false (eqb (nOf after) (nOf (k .clock))) (sym er ∙ h)) refl
 
 -- AN ITEM
-module _ (k : MicroCm) (key g : List ℕ) (after : SubWindowClock) (wrong : Bool) (v : Verdict) (ev : v ≡ keyed k key g Accepted) (ok : Bool) (asked : ok ≡ isAccepted v) where
-  pub item-refused : not ok ≡ true → v ≡ itemVerdict k key g after (refuse 8 wrong)
+module _ (k : MicroCm) (key g : List ℕ) (after : SubWindowClock) (between v : Verdict) (ev : v ≡ keyed k key g Accepted) (ok : Bool) (asked : ok ≡ isAccepted v) where
+  pub item-refused : not ok ≡ true → v ≡ itemVerdict k key g after (andThen between)
   item-refused n = sym (gate-shut (keyed k key g) (keyed-gate k key g) _ v ev (turned-back v ok asked n))
 
   module _ (a : not ok ≡ false) where
@@ -55,38 +55,40 @@ module _ (k : MicroCm) (key g : List ℕ) (after : SubWindowClock) (wrong : Bool
     pub item-fits : keyFits k key ≡ true
     item-fits = keyed-ready k key g passed .1
 
-    kind-left : itemVerdict k key g after (refuse 8 wrong) ≡ refuse 8 wrong (refuseUnsound k g (judgedCells k after (keyCells k 0 key)) Accepted)
-    kind-left = gate-open (keyed k key g) (keyed-gate k key g) _ passed
+    between-left : itemVerdict k key g after (andThen between) ≡ andThen between (refuseUnsound k g (judgedCells k after (keyCells k 0 key)) Accepted)
+    between-left = gate-open (keyed k key g) (keyed-gate k key g) _ passed
 
-    pub item-wrong : wrong ≡ true → Refused 8 ≡ itemVerdict k key g after (refuse 8 wrong)
-    item-wrong h = sym (kind-left ∙ rw h refl)
+    module _ (ok' : Bool) (asked' : ok' ≡ isAccepted between) where
+      pub item-between : not ok' ≡ true → between ≡ itemVerdict k key g after (andThen between)
+      item-between n = sym (between-left ∙ refused-leaves between _ between (turned-back between ok' asked' n))
 
-    module _ (right : wrong ≡ false) (rises : Bool) (er : rises ≡ not (eqb (nOf after) (nOf (k .clock)))) (u : Verdict) where
-      pub item-all : rises ≡ true → u ≡ refuseUnsound k g (allCells k) Accepted → u ≡ itemVerdict k key g after (refuse 8 wrong)
-      item-all h e = e ∙ sym (kind-left ∙ rw right (cells-all k g after rises er (keyCells k 0 key) h))
+    module _ (ok' : Bool) (asked' : ok' ≡ isAccepted between) (a' : not ok' ≡ false) (rises : Bool) (er : rises ≡ not (eqb (nOf after) (nOf (k .clock)))) (u : Verdict) where
+      pub item-all : rises ≡ true → u ≡ refuseUnsound k g (allCells k) Accepted → u ≡ itemVerdict k key g after (andThen between)
+      item-all h e = e ∙ sym (between-left ∙ rw (let-pass between ok' asked' a') (cells-all k g after rises er (keyCells k 0 key) h))
 
-      pub item-key : rises ≡ false → u ≡ refuseUnsound k g (keyCells k 0 key) Accepted → u ≡ itemVerdict k key g after (refuse 8 wrong)
-      item-key h e = e ∙ sym (kind-left ∙ rw right (cells-stay k g after rises er (keyCells k 0 key) h))
+      pub item-key : rises ≡ false → u ≡ refuseUnsound k g (keyCells k 0 key) Accepted → u ≡ itemVerdict k key g after (andThen between)
+      item-key h e = e ∙ sym (between-left ∙ rw (let-pass between ok' asked' a') (cells-stay k g after rises er (keyCells k 0 key) h))
 
 -- NO ITEM
-module _ (k : MicroCm) (g : List ℕ) (after : SubWindowClock) (wrong : Bool) (v : Verdict) (ev : v ≡ sketchVerdict k g) (ok : Bool) (asked : ok ≡ isAccepted v) where
-  pub movement-refused : not ok ≡ true → v ≡ moveVerdict k g after (refuse 8 wrong)
+module _ (k : MicroCm) (g : List ℕ) (after : SubWindowClock) (between v : Verdict) (ev : v ≡ sketchVerdict k g) (ok : Bool) (asked : ok ≡ isAccepted v) where
+  pub movement-refused : not ok ≡ true → v ≡ moveVerdict k g after (andThen between)
   movement-refused n = sym (gate-shut (refuseSketch k g) (sketch-gate k g) _ v ev (turned-back v ok asked n))
 
   module _ (a : not ok ≡ false) where
     pub movement-ready : Ready k (length g)
     movement-ready = ready-of k g (sym ev ∙ let-pass v ok asked a)
 
-    movement-left : moveVerdict k g after (refuse 8 wrong) ≡ refuse 8 wrong (refuseUnsound k g (judgedCells k after []) Accepted)
+    movement-left : moveVerdict k g after (andThen between) ≡ andThen between (refuseUnsound k g (judgedCells k after []) Accepted)
     movement-left = gate-open (refuseSketch k g) (sketch-gate k g) _ (sym ev ∙ let-pass v ok asked a)
 
-    pub movement-wrong : wrong ≡ true → Refused 8 ≡ moveVerdict k g after (refuse 8 wrong)
-    movement-wrong h = sym (movement-left ∙ rw h refl)
+    module _ (ok' : Bool) (asked' : ok' ≡ isAccepted between) where
+      pub movement-between : not ok' ≡ true → between ≡ moveVerdict k g after (andThen between)
+      movement-between n = sym (movement-left ∙ refused-leaves between _ between (turned-back between ok' asked' n))
 
-    module _ (right : wrong ≡ false) (rises : Bool) (er : rises ≡ not (eqb (nOf after) (nOf (k .clock)))) where
-      pub movement-none : not rises ≡ true → v ≡ moveVerdict k g after (refuse 8 wrong)
+    module _ (ok' : Bool) (asked' : ok' ≡ isAccepted between) (a' : not ok' ≡ false) (rises : Bool) (er : rises ≡ not (eqb (nOf after) (nOf (k .clock)))) where
+      pub movement-none : not rises ≡ true → v ≡ moveVerdict k g after (andThen between)
       unfolding firstUnsound
-      movement-none h = let-pass v ok asked a ∙ sym (movement-left ∙ rw right (cells-stay k g after rises er [] (not-true rises h)))
+      movement-none h = let-pass v ok asked a ∙ sym (movement-left ∙ rw (let-pass between ok' asked' a') (cells-stay k g after rises er [] (not-true rises h)))
 
-      pub movement-all : not rises ≡ false → (u : Verdict) → u ≡ refuseUnsound k g (allCells k) Accepted → u ≡ moveVerdict k g after (refuse 8 wrong)
-      movement-all h u e = e ∙ sym (movement-left ∙ rw right (cells-all k g after rises er [] (not-false rises h)))
+      pub movement-all : not rises ≡ false → (u : Verdict) → u ≡ refuseUnsound k g (allCells k) Accepted → u ≡ moveVerdict k g after (andThen between)
+      movement-all h u e = e ∙ sym (movement-left ∙ rw (let-pass between ok' asked' a') (cells-all k g after rises er [] (not-false rises h)))

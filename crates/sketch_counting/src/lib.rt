@@ -18,8 +18,8 @@ pub fn update(sketch: MicroCm, key: &[u32], grid: &mut [u8]) -> SketchAnswer
     let after = clock::worker::ticked(clock);
     let old = clock::worker::sub_window(clock);
     let new = clock::worker::next_sub_window(clock, old);
-    let wrong = !clock::worker::is_count(clock);
-    let counted = worker::count(sketch, &key[..], grid, after, old, new, old, wrong);
+    let between = judge::kind(!clock::worker::is_count(clock));
+    let counted = worker::count(sketch, &key[..], grid, after, old, new, old, between);
     let verdict = counted.verdict;
     if !verdict.accepted() {
         return SketchAnswer {
@@ -43,8 +43,8 @@ pub fn update_at(sketch: MicroCm, key: &[u32], timestamp: u64, grid: &mut [u8]) 
     let after = clock::worker::advanced(clock, timestamp);
     let old = clock::worker::sub_window(clock);
     let new = clock::worker::sub_window(after);
-    let wrong = clock::worker::is_count(clock);
-    let counted = worker::count(sketch, &key[..], grid, after, old, new, new, wrong);
+    let between = judge::kind(clock::worker::is_count(clock));
+    let counted = worker::count(sketch, &key[..], grid, after, old, new, new, between);
     let verdict = counted.verdict;
     if !verdict.accepted() {
         return SketchAnswer {
@@ -70,8 +70,8 @@ pub fn advance_to(sketch: MicroCm, timestamp: u64, grid: &mut [u8]) -> SketchAns
     let after = clock::worker::advanced(clock, timestamp);
     let old = clock::worker::sub_window(clock);
     let new = clock::worker::sub_window(after);
-    let wrong = clock::worker::is_count(clock);
-    let verdict = judge::movement(sketch, &grid[..], after, new != old, wrong);
+    let between = judge::kind(clock::worker::is_count(clock));
+    let verdict = judge::movement(sketch, &grid[..], after, new != old, between);
     if !verdict.accepted() {
         return SketchAnswer {
             verdict,

@@ -10,7 +10,7 @@ ghost use mathlib.Core.Path.{_≡_};
 ghost use Prim.Native.Nat.{_*_, _≤_};
 ghost use Rattle.sketch.specs.Workers.{passOf};
 ghost use Rattle.sketch_counting.specs.Workers.{SoundIf, SubWindows, crossIf, itemCounted, countedOf};
-ghost use Rattle.refusal.specs.Refusals.{refuse};
+ghost use Rattle.refusal.specs.Refusals.{andThen};
 ghost use Rattle.sketch.specs.Refusals.{itemVerdict};
 ghost use Rattle.sketch.specs.Sketch.{taking};
 
@@ -66,14 +66,14 @@ pub fn count(
     old: u64,
     new: u64,
     n: u64,
-    wrong: bool,
+    between: Verdict,
 ) -> Counted
     requires { ⌜ SubWindows sketch after old new n ⌝ }
-    ensures { λ r. ⌜ r .verdict ≡ itemVerdict sketch (now (key .entry)) (now (grid .entry)) after (refuse 8 wrong) ⌝ }
+    ensures { λ r. ⌜ r .verdict ≡ itemVerdict sketch (now (key .entry)) (now (grid .entry)) after (andThen between) ⌝ }
     ensures { λ r. ⌜ countedOf (now (grid .exit)) r ≡ itemCounted (r .verdict) sketch (now (key .entry)) old new n (now (grid .entry)) ⌝ }
 {
     let rounding = sketch.rounding;
-    let verdict = judge::item(sketch, &key[..], &grid[..], after, new != old, wrong);
+    let verdict = judge::item(sketch, &key[..], &grid[..], after, new != old, between);
     if !verdict.accepted() {
         return Counted {
             verdict,

@@ -18,8 +18,11 @@ sub-window-requires-2 c κs = search needs
 is-count-requires : tie.Need-is-count-requires
 is-count-requires c κs = search needs
 
+kind-requires : tie.Need-kind-requires
+kind-requires c κs = search needs
+
 movement-requires : tie.Need-movement-requires
-movement-requires c κs = crosses-told (c .before .before .before .before .before .before .before .before .args .sketch) _ _ _ (c .before .before .before .sub-window .ensures) (c .before .before .sub-window2 .ensures)
+movement-requires c κs = search (crosses-told, needs)
 
 accepted-requires : tie.Need-accepted-requires
 accepted-requires c κs = search needs
@@ -28,10 +31,7 @@ same-length : tie.Need-same-length
 same-length c = search needs
 
 returns : tie.Need-returns
-returns c =
-    let b = c .before .before in
-    let a = b .before .before .before .before .before .before .before .before .before .args in
-    advance-refused (a .sketch) (a .grid .now) (b .before .before .before .before .before .advanced .result) (b .before .before .is-count .result) (b .before .before .is-count .ensures) _ (b .before .before .before .before .before .advanced .ensures) _ (b .movement .ensures) _ (c .before .accepted .ensures) (c .if1 .taken)
+returns c = search (advance-refused, needs)
 
 went-on-requires : tie.Need-went-on-requires
 went-on-requires c κs = search needs
@@ -40,25 +40,16 @@ same-length-2 : tie.Need-same-length-2
 same-length-2 c = search needs
 
 returns-2 : tie.Need-returns-2
-returns-2 c =
-    let b = c .before .before .before .before in
-    let a = b .before .before .before .before .before .before .before .before .before .args in
-    advance-stays (a .sketch) (a .grid .now) (b .before .before .before .before .before .advanced .result) (b .before .before .is-count .result) (b .before .before .is-count .ensures) _ (b .before .before .before .before .before .advanced .ensures) _ (b .movement .ensures) _ (c .before .before .before .accepted .ensures) (c .before .before .if1 .left) _ _ (b .before .before .before .before .sub-window .ensures) (b .before .before .before .sub-window2 .ensures) (c .before .if2 .taken) _ (c .went-on .ensures)
+returns-2 c = search (advance-stays, needs)
 
 sub-begun : tie.Need-sub-begun
 sub-begun c = search needs
 
 mul-cells : tie.Need-mul-cells
-mul-cells c =
-    let b = c .before .before .before .before in
-    let a = b .before .before .before .before .before .before .before .before .before .args in
-    record { fits = move-cells-fit (a .sketch) (a .grid .now) (b .before .before .before .before .before .advanced .result) (b .before .before .is-count .result) _ (b .movement .ensures) _ (c .before .before .before .accepted .ensures) (c .before .before .if1 .left) }
+mul-cells c = record { fits = search (move-cells-fit, needs) }
 
 cross-cells-requires : tie.Need-cross-cells-requires
-cross-cells-requires c κs =
-    let b = c .before .before .before .before .before in
-    let a = b .before .before .before .before .before .before .before .before .before .args in
-    (move-sound (a .sketch) (a .grid .now) (b .before .before .before .before .before .advanced .result) (b .before .before .is-count .result) _ (b .movement .ensures) _ (c .before .before .before .before .accepted .ensures) (c .before .before .before .if1 .left) _ _ (b .before .before .before .before .sub-window .ensures) (b .before .before .before .sub-window2 .ensures) (c .before .before .if2 .left), search needs)
+cross-cells-requires c κs = (search (move-sound, needs), search needs)
 
 went-on-requires-2 : tie.Need-went-on-requires-2
 went-on-requires-2 c κs = search needs
@@ -68,9 +59,13 @@ same-length-3 c = search needs
 
 returns-3 : tie.Need-returns-3
 returns-3 c =
-    let b = c .before .before .before .before .before .before .before .before .before in
-    let a = b .before .before .before .before .before .before .before .before .before .args in
-    advance-crossed (a .sketch) (a .grid .now) (b .before .before .before .before .before .advanced .result) (b .before .before .is-count .result) (b .before .before .is-count .ensures) _ (b .before .before .before .before .before .advanced .ensures) _ (b .movement .ensures) _ (c .before .before .before .before .before .before .before .before .accepted .ensures) (c .before .before .before .before .before .before .before .if1 .left) _ _ (b .before .before .before .before .sub-window .ensures) (b .before .before .before .sub-window2 .ensures) (c .before .before .before .before .before .before .if2 .left) _ _ (c .before .before .before .cross-cells .ensures .0) _ (c .went-on2 .ensures)
+    let crossed = c .before .before in
+    let rose = crossed .before .before .before .before in
+    let passed = rose .before in
+    let judged = passed .before .before in
+    let kept = judged .before .before in
+    let after = kept .before .before in
+    advance-crossed _ _ _ _ (kept .before .is-count .ensures) _ _ (after .before .before .advanced .ensures) (kept .kind .ensures) _ (judged .movement .ensures) _ (passed .before .accepted .ensures) (passed .if1 .left) _ _ (after .before .sub-window .ensures) (after .sub-window2 .ensures) (rose .if2 .left) _ _ (crossed .before .cross-cells .ensures .0) _ (c .went-on2 .ensures)
 
 pub advance-to-spec : {M : Type 1} → statement M
 advance-to-spec =
@@ -80,6 +75,7 @@ advance-to-spec =
     sub-window-requires
     sub-window-requires-2
     is-count-requires
+    kind-requires
     movement-requires
     accepted-requires
     same-length

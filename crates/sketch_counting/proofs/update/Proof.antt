@@ -17,8 +17,11 @@ next-sub-window-requires c κs = search needs
 is-count-requires : tie.Need-is-count-requires
 is-count-requires c κs = search needs
 
+kind-requires : tie.Need-kind-requires
+kind-requires c κs = search needs
+
 count-requires : tie.Need-count-requires
-count-requires c κs = ticked-windows _ _ _ _ (c .before .before .before .sub-window .ensures) (c .before .before .before .before .ticked .ensures) (c .before .before .next-sub-window .ensures)
+count-requires c κs = search (ticked-windows, needs)
 
 accepted-requires : tie.Need-accepted-requires
 accepted-requires c κs = search needs
@@ -27,10 +30,7 @@ same-length : tie.Need-same-length
 same-length c = search needs
 
 returns : tie.Need-returns
-returns c =
-    let b = c .before .before .before .before in
-    let a = b .before .before .before .before .before .before .before .before .args in
-    update-refused (a .sketch) _ (b .before .before .before .before .before .ticked .result) (b .before .before .is-count .result) (b .before .before .is-count .ensures) _ _ _ _ _ _ (b .before .before .before .before .before .ticked .ensures) (b .count .ensures .0) (b .count .ensures .1) _ (c .before .accepted .ensures) (c .if1 .taken)
+returns c = search (update-refused, needs)
 
 went-on-requires : tie.Need-went-on-requires
 went-on-requires c κs = search needs
@@ -39,11 +39,7 @@ same-length-2 : tie.Need-same-length-2
 same-length-2 c = search needs
 
 returns-2 : tie.Need-returns-2
-returns-2 c =
-    let b = c .before .before .before .before .before in
-    let a = b .before .before .before .before .before .before .before .before .args in
-    let at = ticked-windows _ _ _ _ (b .before .before .before .before .sub-window .ensures) (b .before .before .before .before .before .ticked .ensures) (b .before .before .before .next-sub-window .ensures) in
-    update-done (a .sketch) _ (b .before .before .before .before .before .ticked .result) (b .before .before .is-count .result) (b .before .before .is-count .ensures) _ _ _ _ _ _ (b .before .before .before .before .before .ticked .ensures) (b .count .ensures .0) (b .count .ensures .1) _ (c .before .before .accepted .ensures) (c .before .if1 .left) at refl _ (c .went-on .ensures)
+returns-2 c = search (update-done, ticked-windows, needs)
 
 pub update-spec : {M : Type 1} → statement M
 update-spec =
@@ -53,6 +49,7 @@ update-spec =
     sub-window-requires
     next-sub-window-requires
     is-count-requires
+    kind-requires
     count-requires
     accepted-requires
     same-length

@@ -1,5 +1,5 @@
 -- `item`: each way out is what the verdict comes to behind the causes that do not hold. Assumes nothing.
-use Rattle.sketch_counting.proofs.VerdictCases.{item-refused, item-ready, item-fits, item-wrong, item-all, item-key}
+use Rattle.sketch_counting.proofs.VerdictCases.{item-refused, item-ready, item-fits, item-between, item-all, item-key}
 use borrow.Author.Needs.{needs}
 use Rattle.sketch_counting.proofs.judge.item.Statement.{statement}
 use Rattle.sketch_counting.proofs.judge.item.Tie as tie
@@ -13,8 +13,11 @@ accepted-requires c κs = search needs
 returns : tie.Need-returns
 returns c = search (item-refused, needs)
 
+accepted-requires-2 : tie.Need-accepted-requires-2
+accepted-requires-2 c κs = search needs
+
 returns-2 : tie.Need-returns-2
-returns-2 c = search (item-wrong, needs)
+returns-2 c = search (item-between, needs)
 
 all-cells-requires : tie.Need-all-cells-requires
 all-cells-requires c κs = search (item-ready, needs)
@@ -35,6 +38,7 @@ item-spec =
     keyed-requires
     accepted-requires
     returns
+    accepted-requires-2
     returns-2
     all-cells-requires
     returns-3

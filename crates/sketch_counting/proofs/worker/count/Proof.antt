@@ -24,37 +24,37 @@ mul-cells : tie.Need-mul-cells
 mul-cells c =
     let e = c .before .before in
     let a = e .before .before .before .before .before .before .before .args in
-    record { fits = item-cells-fit (a .sketch) (a .key .now) (a .grid .now) (a .after) (a .wrong) _ (e .before .before .item .ensures) _ (e .before .accepted .ensures) (e .if1 .left) }
+    record { fits = item-cells-fit (a .sketch) (a .key .now) (a .grid .now) (a .after) (a .between) _ (e .before .before .item .ensures) _ (e .before .accepted .ensures) (e .if1 .left) }
 
 moved-requires : tie.Need-moved-requires
 moved-requires c κs =
     let e = c .before .before .before in
     let a = e .before .before .before .before .before .before .before .args in
-    (before-sound (a .sketch) (a .key .now) (a .grid .now) (a .after) (a .wrong) _ (e .before .before .item .ensures) _ (e .before .accepted .ensures) (e .if1 .left) _ _ _ (e .before .before .before .before .before .before .before .pre), e .before .before .before .before .before .before .before .pre .grows)
+    (before-sound (a .sketch) (a .key .now) (a .grid .now) (a .after) (a .between) _ (e .before .before .item .ensures) _ (e .before .accepted .ensures) (e .if1 .left) _ _ _ (e .before .before .before .before .before .before .before .pre), e .before .before .before .before .before .before .before .pre .grows)
 
 insert-each-requires : tie.Need-insert-each-requires
 insert-each-requires c κs =
     let e = c .before .before .before .before .before .before .before in
     let a = e .before .before .before .before .before .before .before .args in
-    between-readable (a .sketch) (a .key .now) (a .grid .now) (a .after) (a .wrong) _ (e .before .before .item .ensures) _ (e .before .accepted .ensures) (e .if1 .left) _ _ _ (e .before .before .before .before .before .before .before .pre) _ _ (c .before .before .before .moved .ensures .0)
+    between-readable (a .sketch) (a .key .now) (a .grid .now) (a .after) (a .between) _ (e .before .before .item .ensures) _ (e .before .accepted .ensures) (e .if1 .left) _ _ _ (e .before .before .before .before .before .before .before .pre) _ _ (c .before .before .before .moved .ensures .0)
 
 moved-requires-2 : tie.Need-moved-requires-2
 moved-requires-2 c κs =
     let e = c .before .before .before .before .before .before .before .before .before .before .before in
     let a = e .before .before .before .before .before .before .before .args in
-    (last-sound (a .sketch) (a .key .now) (a .grid .now) (a .after) (a .wrong) _ (e .before .before .item .ensures) _ (e .before .accepted .ensures) (e .if1 .left) _ _ _ (e .before .before .before .before .before .before .before .pre) _ _ (c .before .before .before .before .before .before .before .moved .ensures .0) _ _ _ (c .before .before .before .insert-each .ensures .0), e .before .before .before .before .before .before .before .pre .grows)
+    (last-sound (a .sketch) (a .key .now) (a .grid .now) (a .after) (a .between) _ (e .before .before .item .ensures) _ (e .before .accepted .ensures) (e .if1 .left) _ _ _ (e .before .before .before .before .before .before .before .pre) _ _ (c .before .before .before .before .before .before .before .moved .ensures .0) _ _ _ (c .before .before .before .insert-each .ensures .0), e .before .before .before .before .before .before .before .pre .grows)
 
 add-t32 : tie.Need-add-t32
 add-t32 c =
     let e = c .before .before .before .before .before .before .before .before .before .before .before .before .before .before .before .before in
     let a = e .before .before .before .before .before .before .before .args in
-    record { fits = few-draws (a .sketch) (a .key .now) (a .grid .now) (a .after) (a .wrong) _ (e .before .before .item .ensures) _ (e .before .accepted .ensures) (e .if1 .left) _ _ (c .before .before .before .before .before .before .before .before .before .before .before .before .moved .ensures .1) (c .before .before .before .before .before .before .before .before .insert-each .ensures .1) }
+    record { fits = few-draws (a .sketch) (a .key .now) (a .grid .now) (a .after) (a .between) _ (e .before .before .item .ensures) _ (e .before .accepted .ensures) (e .if1 .left) _ _ (c .before .before .before .before .before .before .before .before .before .before .before .before .moved .ensures .1) (c .before .before .before .before .before .before .before .before .insert-each .ensures .1) }
 
 add-t33 : tie.Need-add-t33
 add-t33 c =
     let e = c .before .before .before .before .before .before .before .before .before .before .before .before .before .before .before .before .before in
     let a = e .before .before .before .before .before .before .before .args in
-    record { fits = few-draws-more (a .sketch) (a .key .now) (a .grid .now) (a .after) (a .wrong) _ (e .before .before .item .ensures) _ (e .before .accepted .ensures) (e .if1 .left) _ _ _ (c .before .before .before .before .before .before .before .before .before .before .before .before .before .moved .ensures .1) (c .before .before .before .before .before .before .before .before .before .insert-each .ensures .1) (c .before .before .before .before .before .moved2 .ensures .1) }
+    record { fits = few-draws-more (a .sketch) (a .key .now) (a .grid .now) (a .after) (a .between) _ (e .before .before .item .ensures) _ (e .before .accepted .ensures) (e .if1 .left) _ _ _ (c .before .before .before .before .before .before .before .before .before .before .before .before .before .moved .ensures .1) (c .before .before .before .before .before .before .before .before .before .insert-each .ensures .1) (c .before .before .before .before .before .moved2 .ensures .1) }
 
 same-length-2 : tie.Need-same-length-2
 same-length-2 c = search needs
