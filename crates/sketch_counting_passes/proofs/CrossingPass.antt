@@ -1,30 +1,44 @@
--- Every cell crosses in place, from the front: a pass over equal pieces, each of which was judged before the pass began. Assumes nothing.
-use Prim.Native.Nat.{ℕ, _+_, _-_, _^_, _≤_, _<_}
+-- Cells cross in place, from the front: a pass over equal pieces, each of which was judged before the pass began. Assumes nothing.
+use Prim.Native.Nat.{ℕ, _+_, _-_, _*_, _^_, _≤_, _<_}
 use mathlib.Core.Path.{_≡_}
 use mathlib.Core.Bool.{true}
 use mathlib.Core.List.{List}
 use native.Mathlib.Omega.{arith}
 use lib.ListN.{length, take, drop}
-use Rattle.laws.proofs.PassLaws.{Going, going-piece, going-length}
+use Rattle.laws.proofs.PassLaws.{Going, going-piece, going-length, going-end}
 use Rattle.cell.specs.Cell.{depthOf, soundOf}
 use Rattle.cell.specs.Workers.{Fit}
-use Rattle.sketch.specs.Workers.{SoundCells}
-use Rattle.sketch_counting_passes.specs.Workers.{crossPiece}
+use Rattle.sketch.specs.declared.Passed.{Passed}
+use Rattle.sketch.specs.Workers.{SoundCells, passOf}
+use Rattle.sketch_counting_passes.specs.Workers.{crossPiece, crossCells, passed}
 
-module _ (t c n crossed count : ℕ) (g₀ : List ℕ) (σ₀ : ℕ) (ok : SoundCells t c count g₀) (g : List ℕ) (σ drawn a i : ℕ)
-    (w : Going (crossPiece t c n crossed) (depthOf t) 4099 count g₀ σ₀ g σ drawn a i) (more : i < count) where
-  module _ (d : ℕ) (ed : d ≡ depthOf t) where
-    pub piece-sound : soundOf t c (take (a + d - a) (drop a g)) ≡ true
-    piece-sound = rw (going-piece (crossPiece t c n crossed) (depthOf t) 4099 count g₀ σ₀ g σ drawn a i w more d ed) (ok .sound i more)
+-- the cells before this one have crossed
+abbrev pub Crossing : ℕ → ℕ → ℕ → ℕ → ℕ → List ℕ → ℕ → List ℕ → ℕ → ℕ → ℕ → ℕ → Type 0
+Crossing t c count n crossed g₀ σ₀ g σ drawn start index =
+    Going (crossPiece t c n crossed) (depthOf t) 4099 count g₀ σ₀ g σ drawn start index
 
-    pub piece-fit : Fit t c (length (take (a + d - a) (drop a g)))
-    piece-fit = rw (going-length (crossPiece t c n crossed) (depthOf t) 4099 count g₀ σ₀ g σ drawn a i w more d ed) (ok .fit)
+module _ (t c count n crossed : ℕ) (g₀ : List ℕ) (σ₀ : ℕ) (g : List ℕ) (σ drawn a i : ℕ)
+    (w : Crossing t c count n crossed g₀ σ₀ g σ drawn a i) where
+  module _ (r : Passed) (er : r ≡ passed σ drawn) where
+    pub crossing-end : count ≤ i → passOf g r ≡ crossCells t c count n crossed g₀ σ₀
+    crossing-end h = rw er (going-end (crossPiece t c n crossed) (depthOf t) 4099 count g₀ σ₀ g σ drawn a i w h)
 
-  pub pass-room : (k : ℕ) → k ≤ t + 3 → drawn + k < 2 ^ 64
-  pass-room k h = omega (arith, w .few, ok .few, ok .fit .t-high)
+    pub crossing-few : r .draws ≤ count * 4099
+    crossing-few = rw er (omega (arith, w .few, w .most))
 
-  pub index-on : i + 1 < 2 ^ 64
-  index-on = omega (arith, ok .few)
+  module _ (ok : SoundCells t c count g₀) (more : i < count) where
+    module _ (d : ℕ) (ed : d ≡ depthOf t) where
+      pub piece-sound : soundOf t c (take (a + d - a) (drop a g)) ≡ true
+      piece-sound = rw (going-piece (crossPiece t c n crossed) (depthOf t) 4099 count g₀ σ₀ g σ drawn a i w more d ed) (ok .sound i more)
 
-pub few-each : (t k : ℕ) → t ≤ 4096 → k ≤ t + 3 → k ≤ 4099
-few-each t k h l = omega arith
+      pub piece-fit : Fit t c (length (take (a + d - a) (drop a g)))
+      piece-fit = rw (going-length (crossPiece t c n crossed) (depthOf t) 4099 count g₀ σ₀ g σ drawn a i w more d ed) (ok .fit)
+
+    pub pass-room : (x : ℕ) → x ≤ t + 3 → drawn + x < 2 ^ 64
+    pass-room x h = omega (arith, w .few, ok .few, ok .fit .t-high)
+
+    pub index-on : i + 1 < 2 ^ 64
+    index-on = omega (arith, ok .few)
+
+pub few-each : (t x : ℕ) → t ≤ 4096 → x ≤ t + 3 → x ≤ 4099
+few-each t x h l = omega arith

@@ -22,6 +22,7 @@ use Rattle.sketch.specs.Workers.{Ready, Judged, Readable, passOf}
 use Rattle.sketch.proofs.AddressLaws.{key-rows, key-column, key-row}
 use Rattle.sketch.proofs.JudgedLaws.{judged-cons, cons-judged}
 use Rattle.sketch.proofs.GridLaws.{at-other, at-length}
+use Rattle.sketch_counting_passes.specs.Workers.{passed}
 
 le-suc : (m : ℕ) → m ≤ suc m
 le-suc m = omega arith
@@ -65,8 +66,8 @@ module _ (k : MicroCm) (n : ℕ) (key g₀ : List ℕ) (σ₀ : ℕ) where
     pub row-sound : (index : ℕ) → index ≡ keyCell k key row → row < length key → soundOf (k .params .t) (k .params .c) (cellOf k g index) ≡ true
     row-sound index e h = rw e (judged-cons k g (keyCell k key row) _ (rw (row-cons h) at (w .judged)) .0)
 
-    module _ (fits : keyFits k key ≡ true) (index : ℕ) (ys : List ℕ) (r : cell.Drawn) (more : row < length key) (ei : index ≡ keyCell k key row) (inside : index < cellsOf k)
-        (es : stepOf ys r ≡ insertAt k n index g σ) where
+    module _ (fits : keyFits k key ≡ true) (index : ℕ) (ys : List ℕ) (r : cell.Drawn) (more : row < length key) (ei : index ≡ keyCell k key row)
+        (inside : index < cellsOf k) (es : stepOf ys r ≡ insertAt k n index g σ) where
       fit : Fit (k .params .t) (k .params .c) (depthOf (k .params .t))
       fit = w .ready .fit
 
@@ -99,12 +100,15 @@ module _ (k : MicroCm) (n : ℕ) (key g₀ : List ℕ) (σ₀ : ℕ) where
               ap (later drawn) (each-cons k n (keyCell k key row) (keyCells k (suc row) (drop (suc row) key)) g σ (stepOf ys r) (es ∙ rw ei refl))
               ∙ later-later drawn (r .draws) _ ∙ rw add-one refl
 
-    pub recording-end : (r : Passed) → length key ≤ row → r ≡ record { state = σ; draws = drawn } → passOf g r ≡ insertEach k n (keyCells k 0 key) g₀ σ₀
+    pub recording-end : (r : Passed) → length key ≤ row → r ≡ passed σ drawn → passOf g r ≡ insertEach k n (keyCells k 0 key) g₀ σ₀
     unfolding keyCells insertEach
     recording-end r h e = rw e (sym (w .done ∙ rw (drop-of-length-le key h) (simp add-zero)))
 
-    pub recording-few : keyFits k key ≡ true → drawn ≤ 128 * 4098
-    recording-few fits = omega (arith, w .few, w .most, key-rows k key fits, w .ready .rows-high)
+    drawn-few : keyFits k key ≡ true → drawn ≤ 128 * 4098
+    drawn-few fits = omega (arith, w .few, w .most, key-rows k key fits, w .ready .rows-high)
+
+    pub recording-few : keyFits k key ≡ true → (r : Passed) → r ≡ passed σ drawn → r .draws ≤ 128 * 4098
+    recording-few fits r e = rw e (drawn-few fits)
 
     pub recording-room : keyFits k key ≡ true → (d : ℕ) → d ≤ 4098 → drawn + d < 2 ^ 64
-    recording-room fits d h = omega (arith, recording-few fits)
+    recording-room fits d h = omega (arith, drawn-few fits)

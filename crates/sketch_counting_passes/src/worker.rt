@@ -8,12 +8,18 @@ ghost use mathlib.Core.Path.{_≡_};
 ghost use mathlib.Core.Bool.{true};
 ghost use Prim.Native.Nat.{_+_, _*_, _≤_, _<_};
 ghost use lib.ListN.{length};
-ghost use Rattle.laws.specs.Passes.{eachOf};
-ghost use Rattle.cell.specs.Cell.{depthOf, slotOf, soundOf};
+ghost use Rattle.cell.specs.Cell.{slotOf, soundOf};
 ghost use Rattle.cell.specs.Workers.{stepOf};
 ghost use Rattle.sketch.specs.Sketch.{cellsOf, cellOf, keyCells, insertAt, insertEach};
 ghost use Rattle.sketch.specs.Workers.{Ready, Readable, SoundCells, passOf};
-ghost use Rattle.sketch_counting_passes.specs.Workers.{crossPiece};
+ghost use Rattle.sketch_counting_passes.specs.Workers.{crossCells, passed};
+
+// What a pass leaves beside the grid.
+pub fn passed(state: u64, draws: u64) -> Passed
+    ensures { λ r. ⌜ r ≡ passed state draws ⌝ }
+{
+    Passed { state, draws }
+}
 
 fn insert_at(
     sketch: MicroCm,
@@ -59,13 +65,10 @@ pub fn insert_each(sketch: MicroCm, key: &[u32], grid: &mut [u8], n: u64, state:
         draws = draws + drawn.draws as u64;
         row += 1;
     }
-    Passed {
-        state: after,
-        draws,
-    }
+    passed(after, draws)
 }
 
-// So many cells, in grid order.
+// So many cells cross, in grid order.
 pub fn cross_cells(
     grid: &mut [u8],
     t: usize,
@@ -76,7 +79,7 @@ pub fn cross_cells(
     state: u64,
 ) -> Passed
     requires { ⌜ SoundCells t c count (now grid) × (crossed ≤ n) ⌝ }
-    ensures { λ r. ⌜ passOf (now (grid .exit)) r ≡ eachOf (crossPiece t c n crossed) (depthOf t) 0 count (now (grid .entry)) state ⌝ }
+    ensures { λ r. ⌜ passOf (now (grid .exit)) r ≡ crossCells t c count n crossed (now (grid .entry)) state ⌝ }
     ensures { λ r. ⌜ r .draws ≤ count * 4099 ⌝ }
 {
     let depth = cell_layout::fields::depth(t);
@@ -101,8 +104,5 @@ pub fn cross_cells(
         start = end;
         index += 1;
     }
-    Passed {
-        state: after,
-        draws,
-    }
+    passed(after, draws)
 }

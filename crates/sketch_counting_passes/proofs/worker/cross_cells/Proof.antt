@@ -1,15 +1,15 @@
 -- `cross_cells`: a pass over equal pieces in place, from the front. Assumes nothing.
-use Rattle.laws.proofs.PassLaws.{Going, going-begin, going-room, going-fits, going-on, going-end}
+use Rattle.laws.proofs.PassLaws.{going-begin, going-room, going-fits, going-on}
+use Rattle.sketch_counting_passes.proofs.CrossingPass.{Crossing, crossing-end, crossing-few}
 use Rattle.sketch_counting_passes.proofs.CrossingPass.{piece-sound, piece-fit, pass-room, index-on, few-each}
-use Rattle.cell.specs.Cell.{depthOf}
-use Rattle.sketch_counting_passes.specs.Workers.{crossPiece}
 use Prim.Native.Nat.{_-_}
 use borrow.Author.Needs.{needs}
 use Rattle.sketch_counting_passes.proofs.worker.cross_cells.Statement.{statement}
 use Rattle.sketch_counting_passes.proofs.worker.cross_cells.Tie as tie
 
 abbrev Inv-loop : tie.InvT-loop
-Inv-loop grid₀ t c count n crossed state depth slot after₀ draws₀ start₀ index₀ grid after draws start index = Going (crossPiece t c n crossed) (depthOf t) 4099 count grid₀ state grid after draws start index
+Inv-loop grid₀ t c count n crossed state depth slot after₀ draws₀ start₀ index₀ grid after draws start index =
+    Crossing t c count n crossed grid₀ state grid after draws start index
 
 abbrev μ-loop : tie.MeasureT-loop
 μ-loop grid₀ t c count n crossed state depth slot after₀ draws₀ start₀ index₀ grid after draws start index = count - index
@@ -56,11 +56,14 @@ loop-less c = search needs
 loop-again : tie.Need-loop-again Inv-loop μ-loop
 loop-again c = search (going-on, few-each, needs)
 
+passed-requires : tie.Need-passed-requires Inv-loop μ-loop
+passed-requires c κs = search needs
+
 same-length : tie.Need-same-length Inv-loop μ-loop
 same-length c = search needs
 
 returns : tie.Need-returns Inv-loop μ-loop
-returns c = (search (going-end, needs), search needs)
+returns c = (search (crossing-end, needs), search (crossing-few, needs))
 
 pub cross-cells-spec : {M : Type 1} → statement M
 cross-cells-spec =
@@ -82,5 +85,6 @@ cross-cells-spec =
     add-index
     loop-less
     loop-again
+    passed-requires
     same-length
     returns)

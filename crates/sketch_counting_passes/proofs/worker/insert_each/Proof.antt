@@ -1,5 +1,6 @@
 -- `insert_each`: the rows before this one are done, and the cells of those to come are as they were. Assumes nothing.
-use Rattle.sketch_counting_passes.proofs.RecordingLoop.{Recording, recording-begin, row-sound, recording-on, recording-end, recording-few, recording-room}
+use Rattle.sketch_counting_passes.proofs.RecordingLoop.{Recording, recording-begin, row-sound, recording-on}
+use Rattle.sketch_counting_passes.proofs.RecordingLoop.{recording-end, recording-few, recording-room}
 use Rattle.sketch.proofs.AddressLaws.{key-row}
 use Prim.Native.Nat.{_-_}
 use lib.ListN.{length}
@@ -40,6 +41,9 @@ loop-less c = search needs
 loop-again : tie.Need-loop-again Inv-loop μ-loop
 loop-again c = search (recording-on, needs)
 
+passed-requires : tie.Need-passed-requires Inv-loop μ-loop
+passed-requires c κs = search needs
+
 same-length : tie.Need-same-length Inv-loop μ-loop
 same-length c = search needs
 
@@ -61,5 +65,6 @@ insert-each-spec =
     add-row
     loop-less
     loop-again
+    passed-requires
     same-length
     returns)
