@@ -1,120 +1,129 @@
 -- The calls from verdict to answer: either way out is what the definition gives there.
-use Prim.Native.Nat.{ℕ}
+use Prim.Native.Nat.{ℕ, _-_}
 use mathlib.Core.Path.{_≡_, refl, sym, ap, _∙_}
-use mathlib.Core.Bool.{Bool, true, false, not}
+use mathlib.Core.Bool.{Bool, true, false, not, cond}
 use mathlib.Core.List.{List}
-use lib.Dec.{eqb}
 use native.Mathlib.Omega.{arith}
 use native.Mathlib.Nat.{zero-add}
-use borrow.Author.Tests.{eq-eqb, ne-eqb}
 use Rattle.laws.specs.Steps.{Step}
 use Rattle.refusal.specs.declared.Verdict.{Verdict}
-use Rattle.refusal.specs.declared.Verdict.the-variants.{Accepted}
-use Rattle.refusal.specs.Refusals.{isAccepted, refuse, andThen}
-use Rattle.refusal.proofs.VerdictLaws.{refused-leaves, turned-back, let-pass, refuse-then}
+use Rattle.refusal.specs.declared.Verdict.the-variants.{Accepted, Refused, Unsound}
+use Rattle.refusal.specs.Refusals.{isAccepted, refuse, whenAccepted, andThen}
+use Rattle.refusal.proofs.VerdictLaws.{refused-leaves, turned-back, let-pass}
 use Rattle.clock.specs.declared.SubWindowClock.{SubWindowClock}
 use Rattle.clock.specs.Clock.{nOf, isCount, tickOf, advanceOf}
 use Rattle.clock.specs.Workers.{Onward}
 use Rattle.sketch.specs.declared.MicroCm.{MicroCm}
 use Rattle.sketch.specs.declared.Passed.{Passed}
-use Rattle.sketch.specs.Sketch.{World, moved, updated, updatedAt, advanced, taking}
-use Rattle.sketch.specs.Refusals.{sketchOutcome, sketchCall, world, updateVerdict, updateCall, updateAtVerdict, updateAtCall, advanceVerdict, advanceCall, itemVerdict, moveVerdict}
+use Rattle.sketch.specs.declared.SketchAnswer.{SketchAnswer}
+use Rattle.sketch.specs.Sketch.{World, cellsOf, crossEach, moved, updated, updatedAt, advanced}
+use Rattle.sketch.specs.Refusals.{sketchOutcome, sketchCall, answered, undrawn, world, itemVerdict, moveVerdict}
+use Rattle.sketch.specs.Refusals.{updateVerdict, updateCall, updateAtVerdict, updateAtCall, advanceVerdict, advanceCall}
 use Rattle.sketch.specs.Workers.{passOf}
+use Rattle.sketch_counting_passes.specs.Workers.{crossCells, passed}
 use Rattle.sketch_counting.specs.declared.worker.Counted.{Counted}
-use Rattle.sketch_counting.specs.Workers.{SubWindows, cross, itemOf, itemCounted, countedOf}
-use Rattle.sketch_counting.proofs.MoveLaws.{cross-rose}
+use Rattle.sketch_counting.specs.Workers.{SubWindows, windows, Moves, numbered, itemOf, itemCounted, wentOn, countedAnswer}
+use Rattle.sketch_counting.proofs.MoveLaws.{cross-none}
 use Rattle.sketch_counting.proofs.ItemLaws.{left, item-first, item-last}
 
 -- THE SUB-WINDOWS of a call
 module _ (k : MicroCm) (clock : SubWindowClock) (old new : ℕ) (eo : old ≡ nOf (k .clock)) where
-  pub ticked-windows : Onward (k .clock) (tickOf (k .clock)) clock → new ≡ nOf (tickOf (k .clock)) → SubWindows k clock old new old
+  pub ticked-windows : Onward (k .clock) (tickOf (k .clock)) clock → new ≡ nOf (tickOf (k .clock)) → Moves k clock (windows old new old)
   ticked-windows on en =
       let en' : new ≡ nOf clock = en ∙ rw (on .is) refl in
-      record { before-is = eo; after-is = en'; grows = omega (arith, eo, en', on .grows); own = λ e. refl }
+      record { before-is = eo; after-is = en'; grows = omega (arith, eo, en', on .grows); own-is = λ e. refl }
 
-  pub advanced-windows : (step : SubWindowClock) → Onward (k .clock) step clock → new ≡ nOf clock → SubWindows k clock old new new
-  advanced-windows step on en = record { before-is = eo; after-is = en; grows = omega (arith, eo, en, on .grows); own = λ e. e }
+  pub advanced-windows : (step : SubWindowClock) → Onward (k .clock) step clock → new ≡ nOf clock → Moves k clock (windows old new new)
+  advanced-windows step on en = record { before-is = eo; after-is = en; grows = omega (arith, eo, en, on .grows); own-is = λ e. e }
+
+-- THE KIND of the clock was judged beforehand
+kind-told : (wrong : Bool) (between : ℕ) → between ≡ cond wrong 8 0 → (rest : Verdict) → andThen (numbered between) rest ≡ refuse 8 wrong rest
+kind-told true between e rest = rw e refl
+kind-told false between e rest = rw e refl
 
 -- THE ANSWERS
-module _ (v told : Verdict) (ev : v ≡ told) (ok : Bool) (asked : ok ≡ isAccepted v) (after before : World) where
-  as-found : not ok ≡ true → (l : List ℕ) → l ≡ before .grid → sketchOutcome (record { verdict = v; sketch = before .sketch; draws = before .draws }) l ≡ sketchCall told after before
-  as-found n l e = rw (← ev, refused-leaves v after before (turned-back v ok asked n), e) refl
+-- of an item, by its verdict
+module _ (k : MicroCm) (clock : SubWindowClock) (r : Counted) (ok : Bool) (asked : ok ≡ isAccepted (r .verdict)) (y : SketchAnswer) where
+  pub answer-refused : not ok ≡ true → y ≡ undrawn (r .verdict) k → y ≡ countedAnswer k clock r
+  answer-refused h ey = ey ∙ sym (refused-leaves (r .verdict) _ _ (turned-back (r .verdict) ok asked h))
 
-  as-done : not ok ≡ false → (w : World) → w ≡ after → sketchOutcome (record { verdict = v; sketch = w .sketch; draws = w .draws }) (w .grid) ≡ sketchCall told after before
-  as-done a w e = rw (← ev, let-pass v ok asked a, ← e) refl
+  pub answer-done : not ok ≡ false → y ≡ wentOn k clock (r .passed) → y ≡ countedAnswer k clock r
+  answer-done a ey = ey ∙ rw (let-pass (r .verdict) ok asked a) refl
 
--- an item: what `count` leaves where it refuses, and where it accepts
-module _ (k : MicroCm) (key g l : List ℕ) (old new n : ℕ) (r : Counted) (ec : countedOf l r ≡ itemCounted (r .verdict) k key old new n g) (ok : Bool) (asked : ok ≡ isAccepted (r .verdict)) where
-  untouched : not ok ≡ true → l ≡ g
-  untouched h = ap (λ (s : Step). s .bytes) (ec ∙ refused-leaves (r .verdict) _ _ (turned-back (r .verdict) ok asked h))
+module _ (k : MicroCm) (g l : List ℕ) (clock : SubWindowClock) (after : World) where
+  went-there : (p : Passed) → left k clock (passOf l p) ≡ after → sketchOutcome (wentOn k clock p) l ≡ sketchCall Accepted after (world k g)
+  went-there p e = ap (λ (w : World). sketchOutcome (answered Accepted w) (w .grid)) e
 
-  counted : not ok ≡ false → countedOf l r ≡ itemOf k key old new n g
-  counted a = ec ∙ rw (let-pass (r .verdict) ok asked a) refl
+  -- what an item leaves
+  item-answered : (key : List ℕ) (at : SubWindows) (r : Counted) → passOf l (r .passed) ≡ itemCounted (r .verdict) k key at g
+      → left k clock (itemOf k key at g) ≡ after → sketchOutcome (countedAnswer k clock r) l ≡ sketchCall (r .verdict) after (world k g)
+  item-answered key at r ec done = by (r .verdict) ec
+    where
+      untouched : (v : Verdict) → passOf l (r .passed) ≡ passOf g (passed (k .rounding .state) 0)
+          → sketchOutcome (undrawn v k) l ≡ sketchOutcome (undrawn v k) g
+      untouched v e = ap (λ (s : Step). sketchOutcome (undrawn v k) (s .bytes)) e
 
--- the kind of the clock, judged before 1 to 7 are
-kind-told : (wrong : Bool) (between : Verdict) → between ≡ refuse 8 wrong Accepted → (rest : Verdict) → andThen between rest ≡ refuse 8 wrong rest
-kind-told wrong between e rest = rw e (sym (refuse-then 8 wrong rest))
+      by : (v : Verdict) → passOf l (r .passed) ≡ itemCounted v k key at g
+          → sketchOutcome (whenAccepted v (wentOn k clock (r .passed)) (undrawn v k)) l ≡ sketchCall v after (world k g)
+      by Accepted e = went-there (r .passed) (ap (left k clock) e ∙ done)
+      by (Refused n) e = untouched (Refused n) e
+      by (Unsound j) e = untouched (Unsound j) e
 
-module _ (k : MicroCm) (g : List ℕ) (clock : SubWindowClock) (counts : Bool) (ek : counts ≡ isCount (k .clock)) (between : Verdict) where
-  -- `update`
-  module _ (key l : List ℕ) (old new n : ℕ) (r : Counted) (on : Onward (k .clock) (tickOf (k .clock)) clock) (eb : between ≡ refuse 8 (not counts) Accepted) (ev : r .verdict ≡ itemVerdict k key g clock (andThen between))
-      (ec : countedOf l r ≡ itemCounted (r .verdict) k key old new n g) (ok : Bool) (asked : ok ≡ isAccepted (r .verdict)) where
-    update-told : r .verdict ≡ updateVerdict k key g
-    update-told = ev ∙ rw (kind-told (not counts) between eb _, on .is, ek) refl
-
-    pub update-refused : not ok ≡ true → sketchOutcome (record { verdict = r .verdict; sketch = k; draws = 0 }) l ≡ updateCall k key g
+module _ (k : MicroCm) (g l : List ℕ) (clock : SubWindowClock) (old new : ℕ) (counts : Bool) (between : ℕ) (y : SketchAnswer)
+    (eo : old ≡ nOf (k .clock)) (ek : counts ≡ isCount (k .clock)) where
+  module _ (key : List ℕ) (r : Counted) (ey : y ≡ countedAnswer k clock r) (ev : r .verdict ≡ itemVerdict k key g clock (andThen (numbered between))) where
+    pub update-done : Onward (k .clock) (tickOf (k .clock)) clock → new ≡ nOf (tickOf (k .clock)) → between ≡ cond (not counts) 8 0
+        → passOf l (r .passed) ≡ itemCounted (r .verdict) k key (windows old new old) g → sketchOutcome y l ≡ updateCall k key g
     unfolding updateCall
-    update-refused h = as-found (r .verdict) (updateVerdict k key g) update-told ok asked (updated key (world k g)) (world k g) h l (untouched k key g l old new n r ec ok asked h)
+    update-done on en eb ec =
+        let after : World = updated key (world k g) in
+        let told : r .verdict ≡ updateVerdict k key g = ev ∙ rw (kind-told (not counts) between eb _, on .is, ek) refl in
+        let there : new ≡ nOf clock = en ∙ rw (on .is) refl in
+        let done : left k clock (itemOf k key (windows old new old) g) ≡ after = item-first k key g clock old new eo there ∙ rw (on .is) refl in
+        rw ey (item-answered k g l clock after key (windows old new old) r ec done ∙ ap (λ (v : Verdict). sketchCall v after (world k g)) told)
 
-    pub update-done : not ok ≡ false → SubWindows k clock old new n → n ≡ old → (y : MicroCm) → y ≡ taking k clock (r .state) → sketchOutcome (record { verdict = r .verdict; sketch = y; draws = r .draws }) l ≡ updateCall k key g
-    unfolding updateCall
-    update-done a at own y ey =
-        let w : World = record { sketch = taking k clock (r .state); grid = l; draws = r .draws } in
-        rw ey (as-done (r .verdict) (updateVerdict k key g) update-told ok asked (updated key (world k g)) (world k g) a w
-        (ap (left k clock) (counted k key g l old new n r ec ok asked a ∙ rw own refl) ∙ item-first k key g clock old new (at .before-is) (at .after-is) ∙ rw (on .is) refl))
+    pub update-at-done : (timestamp : ℕ) → Onward (k .clock) (advanceOf (k .clock) timestamp) clock → new ≡ nOf clock → between ≡ cond counts 8 0
+        → passOf l (r .passed) ≡ itemCounted (r .verdict) k key (windows old new new) g → sketchOutcome y l ≡ updateAtCall k key timestamp g
+    unfolding updateAtCall
+    update-at-done timestamp on en eb ec =
+        let after : World = updatedAt key timestamp (world k g) in
+        let told : r .verdict ≡ updateAtVerdict k key timestamp g = ev ∙ rw (kind-told counts between eb _, on .is, ek) refl in
+        let done : left k clock (itemOf k key (windows old new new) g) ≡ after = item-last k key g clock old new eo en ∙ rw (on .is) refl in
+        rw ey (item-answered k g l clock after key (windows old new new) r ec done ∙ ap (λ (v : Verdict). sketchCall v after (world k g)) told)
 
-  module _ (timestamp : ℕ) (on : Onward (k .clock) (advanceOf (k .clock) timestamp) clock) (eb : between ≡ refuse 8 counts Accepted) where
-    -- `update_at`
-    module _ (key l : List ℕ) (old new n : ℕ) (r : Counted) (ev : r .verdict ≡ itemVerdict k key g clock (andThen between)) (ec : countedOf l r ≡ itemCounted (r .verdict) k key old new n g) (ok : Bool) (asked : ok ≡ isAccepted (r .verdict)) where
-      update-at-told : r .verdict ≡ updateAtVerdict k key timestamp g
-      update-at-told = ev ∙ rw (kind-told counts between eb _, on .is, ek) refl
+-- `advance_to`
+module _ (k : MicroCm) (g : List ℕ) (clock : SubWindowClock) (timestamp : ℕ) (v : Verdict) (between : ℕ) (counts : Bool) where
+  -- the verdict, and why it is the call's
+  advance-told : v ≡ moveVerdict k g clock (andThen (numbered between)) → between ≡ cond counts 8 0 → counts ≡ isCount (k .clock)
+      → Onward (k .clock) (advanceOf (k .clock) timestamp) clock → v ≡ advanceVerdict k timestamp g
+  advance-told ev eb ek on = ev ∙ rw (kind-told counts between eb _, on .is, ek) refl
 
-      pub update-at-refused : not ok ≡ true → sketchOutcome (record { verdict = r .verdict; sketch = k; draws = 0 }) l ≡ updateAtCall k key timestamp g
-      unfolding updateAtCall
-      update-at-refused h = as-found (r .verdict) (updateAtVerdict k key timestamp g) update-at-told ok asked (updatedAt key timestamp (world k g)) (world k g) h l (untouched k key g l old new n r ec ok asked h)
+  module _ (y : SketchAnswer) (ok : Bool) where
+    pub advance-refused : y ≡ undrawn v k → ok ≡ isAccepted v → not ok ≡ true → v ≡ moveVerdict k g clock (andThen (numbered between))
+        → between ≡ cond counts 8 0 → counts ≡ isCount (k .clock) → Onward (k .clock) (advanceOf (k .clock) timestamp) clock
+        → sketchOutcome y g ≡ advanceCall k timestamp g
+    unfolding advanceCall
+    advance-refused ey asked h ev eb ek on =
+        let left-as-found = refused-leaves v (advanced timestamp (world k g)) (world k g) (turned-back v ok asked h) in
+        rw (ey, ← advance-told ev eb ek on, left-as-found) refl
 
-      pub update-at-done : not ok ≡ false → SubWindows k clock old new n → n ≡ new → (y : MicroCm) → y ≡ taking k clock (r .state) → sketchOutcome (record { verdict = r .verdict; sketch = y; draws = r .draws }) l ≡ updateAtCall k key timestamp g
-      unfolding updateAtCall
-      update-at-done a at own y ey =
-          let w : World = record { sketch = taking k clock (r .state); grid = l; draws = r .draws } in
-          rw ey (as-done (r .verdict) (updateAtVerdict k key timestamp g) update-at-told ok asked (updatedAt key timestamp (world k g)) (world k g) a w
-          (ap (left k clock) (counted k key g l old new n r ec ok asked a ∙ rw own refl) ∙ item-last k key g clock old new (at .before-is) (at .after-is) ∙ rw (on .is) refl))
+    module _ (l : List ℕ) (p : Passed) (old new : ℕ) where
+      pub advance-crossed : y ≡ wentOn k clock p → passOf l p ≡ crossCells (k .params .t) (k .params .c) (cellsOf k) new (new - old) g (k .rounding .state)
+          → v ≡ moveVerdict k g clock (andThen (numbered between)) → ok ≡ isAccepted v → not ok ≡ false
+          → between ≡ cond counts 8 0 → counts ≡ isCount (k .clock) → Onward (k .clock) (advanceOf (k .clock) timestamp) clock
+          → old ≡ nOf (k .clock) → new ≡ nOf clock → sketchOutcome y l ≡ advanceCall k timestamp g
+      unfolding advanceCall moved crossEach
+      advance-crossed ey ep ev asked a eb ek on eo en =
+          let there : left k clock (passOf l p) ≡ moved clock (world k g) = ap (left k clock) ep ∙ rw (← eo, ← en) (simp zero-add) in
+          rw (ey, ← advance-told ev eb ek on, let-pass v ok asked a)
+          (went-there k g l clock (advanced timestamp (world k g)) p (there ∙ rw (on .is) refl))
 
-    -- `advance_to`
-    module _ (v : Verdict) (ev : v ≡ moveVerdict k g clock (andThen between)) (ok : Bool) (asked : ok ≡ isAccepted v) where
-      advance-told : v ≡ advanceVerdict k timestamp g
-      advance-told = ev ∙ rw (kind-told counts between eb _, on .is, ek) refl
-
-      pub advance-refused : not ok ≡ true → sketchOutcome (record { verdict = v; sketch = k; draws = 0 }) g ≡ advanceCall k timestamp g
-      unfolding advanceCall
-      advance-refused h = as-found v (advanceVerdict k timestamp g) advance-told ok asked (advanced timestamp (world k g)) (world k g) h g refl
-
-      module _ (a : not ok ≡ false) (old new : ℕ) (eo : old ≡ nOf (k .clock)) (en : new ≡ nOf clock) where
-        there : (moves : Bool) → moves ≡ not (eqb new old) → (l : List ℕ) (r : Passed) → passOf l r ≡ cross k moves old new g (k .rounding .state) → left k clock (passOf l r) ≡ moved clock (world k g)
-        unfolding moved
-        there moves em l r er = ap (left k clock) (er ∙ cross-rose k old new moves em g (k .rounding .state)) ∙ rw (← eo, ← en) (simp zero-add)
-
-        advanced-to : (l : List ℕ) (r : Passed) → left k clock (passOf l r) ≡ moved clock (world k g) → (y : MicroCm) → y ≡ taking k clock (r .state)
-            → sketchOutcome (record { verdict = v; sketch = y; draws = r .draws }) l ≡ advanceCall k timestamp g
-        unfolding advanceCall
-        advanced-to l r e y ey =
-            rw ey (as-done v (advanceVerdict k timestamp g) advance-told ok asked (advanced timestamp (world k g)) (world k g) a (left k clock (passOf l r)) (e ∙ rw (on .is) refl))
-
-        pub advance-stays : new ≡ old → (y : MicroCm) → y ≡ taking k clock (k .rounding .state) → sketchOutcome (record { verdict = v; sketch = y; draws = 0 }) g ≡ advanceCall k timestamp g
-        advance-stays e =
-            let none : Passed = record { state = k .rounding .state; draws = 0 } in
-            advanced-to g none (there false (rw (eq-eqb new old e) refl) g none refl)
-
-        pub advance-crossed : (new ≡ old → ⊥) → (l : List ℕ) (r : Passed) → passOf l r ≡ cross k true old new g (k .rounding .state)
-            → (y : MicroCm) → y ≡ taking k clock (r .state) → sketchOutcome (record { verdict = v; sketch = y; draws = r .draws }) l ≡ advanceCall k timestamp g
-        advance-crossed rose l r er = advanced-to l r (there true (rw (ne-eqb new old rose) refl) l r er)
+    pub advance-stays : (p : Passed) (old new : ℕ) → y ≡ wentOn k clock p → p ≡ passed (k .rounding .state) 0
+        → v ≡ moveVerdict k g clock (andThen (numbered between)) → ok ≡ isAccepted v → not ok ≡ false
+        → between ≡ cond counts 8 0 → counts ≡ isCount (k .clock) → Onward (k .clock) (advanceOf (k .clock) timestamp) clock
+        → old ≡ nOf (k .clock) → new ≡ nOf clock → new ≡ old → sketchOutcome y g ≡ advanceCall k timestamp g
+    unfolding crossEach
+    advance-stays p old new ey ep ev asked a eb ek on eo en e =
+        let none : new - old ≡ 0 = omega (arith, e) in
+        let still-there : passOf g p ≡ crossEach k new (new - old) g (k .rounding .state) = rw (ep, none) (sym (cross-none k new g (k .rounding .state))) in
+        advance-crossed g p old new ey still-there ev asked a eb ek on eo en

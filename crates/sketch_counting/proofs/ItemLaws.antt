@@ -6,7 +6,7 @@ use mathlib.Core.List.{List, [], _∷_}
 use lib.Dec.{eqb}
 use native.Mathlib.Nat.{add-zero, zero-add}
 use borrow.Author.Tests.{eq-eqb}
-use Rattle.laws.specs.Steps.{Step, still}
+use Rattle.laws.specs.Steps.{Step, still, later}
 use Rattle.refusal.specs.declared.Verdict.{Verdict}
 use Rattle.refusal.specs.Refusals.{isAccepted}
 use Rattle.refusal.proofs.VerdictLaws.{refused-leaves, turned-back, let-pass}
@@ -17,36 +17,49 @@ use Rattle.sketch.specs.declared.Passed.{Passed}
 use Rattle.sketch.specs.Sketch.{cellIndex, keyCells, insertAt, insertEach, crossEach, World, recorded, moved, taking}
 use Rattle.sketch.specs.Refusals.{world}
 use Rattle.sketch.specs.Workers.{passOf}
-use Rattle.sketch_counting.specs.Workers.{cross, itemOf, itemCounted, countedOf}
+use Rattle.sketch_counting_passes.specs.Workers.{passed}
+use Rattle.sketch_counting.specs.declared.worker.Counted.{Counted}
+use Rattle.sketch_counting.specs.Workers.{SubWindows, windows, crossIf, itemOf, itemCounted, outcome}
 use Rattle.sketch_counting.proofs.MoveLaws.{cross-rose}
 
--- THE STEPS, one after another
-module _ (k : MicroCm) (key g : List ℕ) (old new n : ℕ) where
-  in-order : (before item last : Step)
-      → before ≡ cross k (not (eqb n old)) old new g (k .rounding .state)
-      → item ≡ insertEach k n (keyCells k 0 key) (before .bytes) (before .state)
-      → last ≡ cross k (not (eqb new n)) old new (item .bytes) (item .state)
-      → record { bytes = last .bytes; state = last .state; draws = before .draws + item .draws + last .draws } ≡ itemOf k key old new n g
+-- THE STEPS of `in_order`, one after another
+module _ (k : MicroCm) (key g : List ℕ) (at : SubWindows) where
+  abbrev crossed-first : Step
+  crossed-first = crossIf (not (eqb (at .own) (at .old))) k (at .old) (at .new) g (k .rounding .state)
+
+  abbrev inserted : Step → Step
+  inserted s = insertEach k (at .own) (keyCells k 0 key) (s .bytes) (s .state)
+
+  abbrev crossed-last : Step → Step
+  crossed-last s = crossIf (not (eqb (at .new) (at .own))) k (at .old) (at .new) (s .bytes) (s .state)
+
+  in-order : (before item last : Step) → before ≡ crossed-first → item ≡ inserted before → last ≡ crossed-last item
+      → later (before .draws + item .draws) last ≡ itemOf k key at g
   unfolding itemOf
   in-order before item last eb ei el =
-      let inserted : Step → Step = λ s. insertEach k n (keyCells k 0 key) (s .bytes) (s .state) in
-      let crossed : Step → Step = λ s. cross k (not (eqb new n)) old new (s .bytes) (s .state) in
-      ap (λ (r : Step). record { bytes = r .bytes; state = r .state; draws = before .draws + item .draws + r .draws }) el
-      ∙ ap (λ (s : Step). record { bytes = crossed s .bytes; state = crossed s .state; draws = before .draws + s .draws + crossed s .draws }) ei
-      ∙ ap (λ (s : Step). record { bytes = crossed (inserted s) .bytes; state = crossed (inserted s) .state; draws = s .draws + inserted s .draws + crossed (inserted s) .draws }) eb
+      ap (λ (r : Step). later (before .draws + item .draws) r) el
+      ∙ ap (λ (s : Step). later (before .draws + s .draws) (crossed-last s)) ei
+      ∙ ap (λ (s : Step). later (s .draws + inserted s .draws) (crossed-last (inserted s))) eb
 
-  -- as `count` makes them
-  module _ (v : Verdict) (ok : Bool) (asked : ok ≡ isAccepted v) where
-    pub count-refused : not ok ≡ true → countedOf g (record { verdict = v; state = k .rounding .state; draws = 0 }) ≡ itemCounted v k key old new n g
-    count-refused h = sym (refused-leaves v _ _ (turned-back v ok asked h))
+  module _ (before item last r : Passed) (m m' l : List ℕ) where
+    pub order-done : passOf m before ≡ crossIf (not (eqb (at .own) (at .old))) k (at .old) (at .new) g (k .rounding .state)
+        → passOf m' item ≡ insertEach k (at .own) (keyCells k 0 key) m (before .state)
+        → passOf l last ≡ crossIf (not (eqb (at .new) (at .own))) k (at .old) (at .new) m' (item .state)
+        → r ≡ passed (last .state) (before .draws + item .draws + last .draws)
+        → passOf l r ≡ itemOf k key at g
+    order-done eb ei el er = rw er (in-order (passOf m before) (passOf m' item) (passOf l last) eb ei el)
 
-    pub count-done : not ok ≡ false
-        → (m m' l : List ℕ) (before item last : Passed)
-        → passOf m before ≡ cross k (not (eqb n old)) old new g (k .rounding .state)
-        → passOf m' item ≡ insertEach k n (keyCells k 0 key) m (before .state)
-        → passOf l last ≡ cross k (not (eqb new n)) old new m' (item .state)
-        → countedOf l (record { verdict = v; state = last .state; draws = before .draws + item .draws + last .draws }) ≡ itemCounted v k key old new n g
-    count-done a m m' l before item last eb ei el = rw (let-pass v ok asked a) (in-order (passOf m before) (passOf m' item) (passOf l last) eb ei el)
+  -- `count`: judged, and then done
+  module _ (v : Verdict) (r : Counted) (p : Passed) (er : r ≡ outcome v p) where
+    pub count-told : (told : Verdict) → v ≡ told → r .verdict ≡ told
+    count-told told e = rw er e
+
+    module _ (ok : Bool) (asked : ok ≡ isAccepted v) where
+      pub count-refused : not ok ≡ true → p ≡ passed (k .rounding .state) 0 → passOf g (r .passed) ≡ itemCounted (r .verdict) k key at g
+      count-refused h ep = rw (er, ep) (sym (refused-leaves v _ _ (turned-back v ok asked h)))
+
+      pub count-done : not ok ≡ false → (l : List ℕ) → passOf l p ≡ itemOf k key at g → passOf l (r .passed) ≡ itemCounted (r .verdict) k key at g
+      count-done a l e = rw (er, let-pass v ok asked a) e
 
 -- ANOTHER CLOCK and another state change neither the key's cells nor what a recording does to them
 module _ (k : MicroCm) (clock : SubWindowClock) (σ : ℕ) where
@@ -65,20 +78,23 @@ abbrev pub left : MicroCm → SubWindowClock → Step → World
 left k clock s = record { sketch = taking k clock (s .state); grid = s .bytes; draws = s .draws }
 
 module _ (k : MicroCm) (key g : List ℕ) (clock : SubWindowClock) (old new : ℕ) (eo : old ≡ nOf (k .clock)) (en : new ≡ nOf clock) where
-  pub item-first : left k clock (itemOf k key old new old g) ≡ moved clock (recorded key (world k g))
+  pub item-first : left k clock (itemOf k key (windows old new old) g) ≡ moved clock (recorded key (world k g))
   unfolding moved recorded crossEach
   item-first =
       let item : Step = insertEach k old (keyCells k 0 key) g (k .rounding .state) in
       let last : Step = crossEach k new (new - old) (item .bytes) (item .state) in
-      ap (left k clock)
-      (sym (in-order k key g old new old (still g (k .rounding .state)) item last (rw (eq-eqb old old refl) refl) refl (sym (cross-rose k old new _ refl (item .bytes) (item .state)))))
+      let none : still g (k .rounding .state) ≡ crossed-first k key g (windows old new old) = rw (eq-eqb old old refl) refl in
+      let rose = sym (cross-rose k old new _ refl (item .bytes) (item .state)) in
+      ap (left k clock) (sym (in-order k key g (windows old new old) (still g (k .rounding .state)) item last none refl rose))
       ∙ rw (← eo, ← en) refl
 
-  pub item-last : left k clock (itemOf k key old new new g) ≡ recorded key (moved clock (world k g))
+  pub item-last : left k clock (itemOf k key (windows old new new) g) ≡ recorded key (moved clock (world k g))
   unfolding moved recorded
   item-last =
       let before : Step = crossEach k new (new - old) g (k .rounding .state) in
       let item : Step = insertEach k new (keyCells k 0 key) (before .bytes) (before .state) in
-      ap (left k clock)
-      (sym (in-order k key g old new new before item (still (item .bytes) (item .state)) (sym (cross-rose k old new _ refl g (k .rounding .state))) refl (rw (eq-eqb new new refl) refl)))
-      ∙ rw (← eo, ← en, alike-cells k clock (before .state) 0 key, alike-insert k clock (before .state) new (keyCells k 0 key) (before .bytes) (before .state)) (simp (add-zero, zero-add))
+      let rose = sym (cross-rose k old new _ refl g (k .rounding .state)) in
+      let none : still (item .bytes) (item .state) ≡ crossed-last k key g (windows old new new) item = rw (eq-eqb new new refl) refl in
+      let same = alike-insert k clock (before .state) new (keyCells k 0 key) (before .bytes) (before .state) in
+      ap (left k clock) (sym (in-order k key g (windows old new new) before item (still (item .bytes) (item .state)) rose refl none))
+      ∙ rw (← eo, ← en, alike-cells k clock (before .state) 0 key, same) (simp (add-zero, zero-add))

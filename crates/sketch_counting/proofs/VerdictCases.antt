@@ -5,11 +5,11 @@ use mathlib.Core.Bool.{Bool, true, false, not}
 use mathlib.Core.List.{List, []}
 use lib.Dec.{eqb}
 use lib.ListN.{length}
-use borrow.Author.Tests.{not-true, not-false}
+use borrow.Author.Tests.{ne-eqb, not-true, not-false}
 use Rattle.refusal.specs.declared.Verdict.{Verdict}
-use Rattle.refusal.specs.declared.Verdict.the-variants.{Accepted}
+use Rattle.refusal.specs.declared.Verdict.the-variants.{Accepted, Refused}
 use Rattle.refusal.specs.Refusals.{isAccepted, andThen}
-use Rattle.refusal.proofs.VerdictLaws.{refused-leaves, turned-back, let-pass, refuse-then}
+use Rattle.refusal.proofs.VerdictLaws.{turned-back, let-pass, refuse-then}
 use Rattle.refusal.proofs.GateLaws.{Gate, gate-chain, gate-open, gate-shut}
 use Rattle.clock.specs.declared.SubWindowClock.{SubWindowClock}
 use Rattle.clock.specs.Clock.{nOf}
@@ -20,6 +20,7 @@ use Rattle.sketch.specs.Audit.{firstUnsound}
 use Rattle.sketch.specs.Workers.{Ready}
 use Rattle.sketch.proofs.ReadyLaws.{ready-of, keyed-ready}
 use Rattle.sketch.proofs.SketchGates.{sketch-gate}
+use Rattle.sketch_counting.specs.Workers.{crossesTo, numbered}
 
 -- 1 to 7
 abbrev pub keyed : MicroCm → List ℕ → List ℕ → Verdict → Verdict
@@ -29,11 +30,11 @@ pub keyed-gate : (k : MicroCm) (key g : List ℕ) → Gate (keyed k key g)
 keyed-gate k key g = gate-chain (refuseSketch k g) (refuseKey k key) (sketch-gate k g) (refuse-then 7 (not (keyFits k key)))
 
 -- n rises where the two sub-windows differ
-pub crosses-told : (k : MicroCm) (after : SubWindowClock) (old new : ℕ) → old ≡ nOf (k .clock) → new ≡ nOf after → not (eqb new old) ≡ not (eqb (nOf after) (nOf (k .clock)))
+pub crosses-told : (k : MicroCm) (after : SubWindowClock) (old new : ℕ) → old ≡ nOf (k .clock) → new ≡ nOf after → not (eqb new old) ≡ crossesTo k after
 crosses-told k after old new eo en = rw (eo, en) refl
 
 -- CELLS: these where n stays, and every one where it rises
-module _ (k : MicroCm) (g : List ℕ) (after : SubWindowClock) (rises : Bool) (er : rises ≡ not (eqb (nOf after) (nOf (k .clock)))) (cells : List ℕ) where
+module _ (k : MicroCm) (g : List ℕ) (after : SubWindowClock) (rises : Bool) (er : rises ≡ crossesTo k after) (cells : List ℕ) where
   cells-all : rises ≡ true → refuseUnsound k g (judgedCells k after cells) Accepted ≡ refuseUnsound k g (allCells k) Accepted
   cells-all h = rw (not-true (eqb (nOf after) (nOf (k .clock))) (sym er ∙ h)) refl
 
@@ -41,8 +42,9 @@ module _ (k : MicroCm) (g : List ℕ) (after : SubWindowClock) (rises : Bool) (e
   cells-stay h = rw (not-false (eqb (nOf after) (nOf (k .clock))) (sym er ∙ h)) refl
 
 -- AN ITEM
-module _ (k : MicroCm) (key g : List ℕ) (after : SubWindowClock) (between v : Verdict) (ev : v ≡ keyed k key g Accepted) (ok : Bool) (asked : ok ≡ isAccepted v) where
-  pub item-refused : not ok ≡ true → v ≡ itemVerdict k key g after (andThen between)
+module _ (k : MicroCm) (key g : List ℕ) (after : SubWindowClock) (between : ℕ) (v : Verdict) (ev : v ≡ keyed k key g Accepted)
+    (ok : Bool) (asked : ok ≡ isAccepted v) where
+  pub item-refused : not ok ≡ true → v ≡ itemVerdict k key g after (andThen (numbered between))
   item-refused n = sym (gate-shut (keyed k key g) (keyed-gate k key g) _ v ev (turned-back v ok asked n))
 
   module _ (a : not ok ≡ false) where
@@ -55,40 +57,41 @@ module _ (k : MicroCm) (key g : List ℕ) (after : SubWindowClock) (between v : 
     pub item-fits : keyFits k key ≡ true
     item-fits = keyed-ready k key g passed .1
 
-    between-left : itemVerdict k key g after (andThen between) ≡ andThen between (refuseUnsound k g (judgedCells k after (keyCells k 0 key)) Accepted)
+    between-left : itemVerdict k key g after (andThen (numbered between))
+        ≡ andThen (numbered between) (refuseUnsound k g (judgedCells k after (keyCells k 0 key)) Accepted)
     between-left = gate-open (keyed k key g) (keyed-gate k key g) _ passed
 
-    module _ (ok' : Bool) (asked' : ok' ≡ isAccepted between) where
-      pub item-between : not ok' ≡ true → between ≡ itemVerdict k key g after (andThen between)
-      item-between n = sym (between-left ∙ refused-leaves between _ between (turned-back between ok' asked' n))
+    pub item-between : (between ≡ 0 → ⊥) → Refused between ≡ itemVerdict k key g after (andThen (numbered between))
+    item-between n = sym (between-left ∙ rw (ne-eqb between 0 n) refl)
 
-    module _ (ok' : Bool) (asked' : ok' ≡ isAccepted between) (a' : not ok' ≡ false) (rises : Bool) (er : rises ≡ not (eqb (nOf after) (nOf (k .clock)))) (u : Verdict) where
-      pub item-all : rises ≡ true → u ≡ refuseUnsound k g (allCells k) Accepted → u ≡ itemVerdict k key g after (andThen between)
-      item-all h e = e ∙ sym (between-left ∙ rw (let-pass between ok' asked' a') (cells-all k g after rises er (keyCells k 0 key) h))
+    module _ (none : between ≡ 0) (rises : Bool) (er : rises ≡ crossesTo k after) (u : Verdict) where
+      pub item-all : rises ≡ true → u ≡ refuseUnsound k g (allCells k) Accepted → u ≡ itemVerdict k key g after (andThen (numbered between))
+      item-all h e = e ∙ sym (between-left ∙ rw none (cells-all k g after rises er (keyCells k 0 key) h))
 
-      pub item-key : rises ≡ false → u ≡ refuseUnsound k g (keyCells k 0 key) Accepted → u ≡ itemVerdict k key g after (andThen between)
-      item-key h e = e ∙ sym (between-left ∙ rw (let-pass between ok' asked' a') (cells-stay k g after rises er (keyCells k 0 key) h))
+      pub item-key : rises ≡ false → u ≡ refuseUnsound k g (keyCells k 0 key) Accepted → u ≡ itemVerdict k key g after (andThen (numbered between))
+      item-key h e = e ∙ sym (between-left ∙ rw none (cells-stay k g after rises er (keyCells k 0 key) h))
 
 -- NO ITEM
-module _ (k : MicroCm) (g : List ℕ) (after : SubWindowClock) (between v : Verdict) (ev : v ≡ sketchVerdict k g) (ok : Bool) (asked : ok ≡ isAccepted v) where
-  pub movement-refused : not ok ≡ true → v ≡ moveVerdict k g after (andThen between)
+module _ (k : MicroCm) (g : List ℕ) (after : SubWindowClock) (between : ℕ) (v : Verdict) (ev : v ≡ sketchVerdict k g)
+    (ok : Bool) (asked : ok ≡ isAccepted v) where
+  pub movement-refused : not ok ≡ true → v ≡ moveVerdict k g after (andThen (numbered between))
   movement-refused n = sym (gate-shut (refuseSketch k g) (sketch-gate k g) _ v ev (turned-back v ok asked n))
 
   module _ (a : not ok ≡ false) where
     pub movement-ready : Ready k (length g)
     movement-ready = ready-of k g (sym ev ∙ let-pass v ok asked a)
 
-    movement-left : moveVerdict k g after (andThen between) ≡ andThen between (refuseUnsound k g (judgedCells k after []) Accepted)
+    movement-left : moveVerdict k g after (andThen (numbered between)) ≡ andThen (numbered between) (refuseUnsound k g (judgedCells k after []) Accepted)
     movement-left = gate-open (refuseSketch k g) (sketch-gate k g) _ (sym ev ∙ let-pass v ok asked a)
 
-    module _ (ok' : Bool) (asked' : ok' ≡ isAccepted between) where
-      pub movement-between : not ok' ≡ true → between ≡ moveVerdict k g after (andThen between)
-      movement-between n = sym (movement-left ∙ refused-leaves between _ between (turned-back between ok' asked' n))
+    pub movement-between : (between ≡ 0 → ⊥) → Refused between ≡ moveVerdict k g after (andThen (numbered between))
+    movement-between n = sym (movement-left ∙ rw (ne-eqb between 0 n) refl)
 
-    module _ (ok' : Bool) (asked' : ok' ≡ isAccepted between) (a' : not ok' ≡ false) (rises : Bool) (er : rises ≡ not (eqb (nOf after) (nOf (k .clock)))) where
-      pub movement-none : not rises ≡ true → v ≡ moveVerdict k g after (andThen between)
+    module _ (none : between ≡ 0) (rises : Bool) (er : rises ≡ crossesTo k after) where
+      pub movement-none : not rises ≡ true → v ≡ moveVerdict k g after (andThen (numbered between))
       unfolding firstUnsound
-      movement-none h = let-pass v ok asked a ∙ sym (movement-left ∙ rw (let-pass between ok' asked' a') (cells-stay k g after rises er [] (not-true rises h)))
+      movement-none h = let-pass v ok asked a ∙ sym (movement-left ∙ rw none (cells-stay k g after rises er [] (not-true rises h)))
 
-      pub movement-all : not rises ≡ false → (u : Verdict) → u ≡ refuseUnsound k g (allCells k) Accepted → u ≡ moveVerdict k g after (andThen between)
-      movement-all h u e = e ∙ sym (movement-left ∙ rw (let-pass between ok' asked' a') (cells-all k g after rises er [] (not-false rises h)))
+      pub movement-all : not rises ≡ false → (u : Verdict) → u ≡ refuseUnsound k g (allCells k) Accepted
+          → u ≡ moveVerdict k g after (andThen (numbered between))
+      movement-all h u e = e ∙ sym (movement-left ∙ rw none (cells-all k g after rises er [] (not-false rises h)))

@@ -2,54 +2,81 @@
 use Prim.Native.Nat.{ℕ, _+_, _-_, _≤_}
 use mathlib.Core.Path.{_≡_}
 use mathlib.Core.Bool.{Bool, true, not, cond}
-use mathlib.Core.List.{List, []}
+use mathlib.Core.List.{List}
 use lib.Dec.{eqb}
-use Rattle.laws.specs.Steps.{Step, still}
-use Rattle.laws.specs.Passes.{eachOf}
+use Rattle.laws.specs.Steps.{Step, still, later}
 use Rattle.refusal.specs.declared.Verdict.{Verdict}
 use Rattle.refusal.specs.declared.Verdict.the-variants.{Accepted}
 use Rattle.refusal.specs.Refusals.{refuse, whenAccepted}
-use Rattle.cell.specs.Cell.{depthOf}
 use Rattle.clock.specs.declared.SubWindowClock.{SubWindowClock}
 use Rattle.clock.specs.Clock.{nOf}
 use Rattle.sketch.specs.declared.MicroCm.{MicroCm}
-use Rattle.sketch.specs.Sketch.{cellsOf, keyCells, insertEach}
-use Rattle.sketch.specs.Refusals.{refuseSketch, refuseKey, refuseUnsound, judgedCells}
-use Rattle.sketch.specs.Workers.{SoundCells}
-use Rattle.sketch_counting_passes.specs.Workers.{crossPiece}
+use Rattle.sketch.specs.declared.Passed.{Passed}
+use Rattle.sketch.specs.declared.SketchAnswer.{SketchAnswer}
+use Rattle.sketch.specs.Sketch.{cellsOf, keyCells, allCells, insertEach, crossEach, taking}
+use Rattle.sketch.specs.Refusals.{keyFits, sketchVerdict, undrawn}
+use Rattle.sketch.specs.Workers.{Judged, SoundCells}
 use Rattle.sketch_counting.specs.declared.worker.Counted.{Counted}
 
--- so many cells cross from one sub-window to another, or stay as they are
-abbrev pub crossIf : Bool → ℕ → ℕ → ℕ → ℕ → ℕ → List ℕ → ℕ → Step
-crossIf moves t c count old new g σ = cond moves (eachOf (crossPiece t c new (new - old)) (depthOf t) 0 count g σ) (still g σ)
+-- the sub-windows of a call: before it, after it, and the item's own
+pub record SubWindows : Type 0 where
+  pub old : ℕ
+  pub new : ℕ
+  pub own : ℕ
+
+abbrev pub windows : ℕ → ℕ → ℕ → SubWindows
+windows old new n = record { old = old; new = new; own = n }
+
+-- n differs by the move to this clock
+abbrev pub crossesTo : MicroCm → SubWindowClock → Bool
+crossesTo k after = not (eqb (nOf after) (nOf (k .clock)))
+
+-- refused by this number, and accepted by 0
+abbrev pub numbered : ℕ → Verdict
+numbered n = refuse n (not (eqb n 0)) Accepted
+
+-- every cell crosses, or stays as it is
+abbrev pub crossIf : Bool → MicroCm → ℕ → ℕ → List ℕ → ℕ → Step
+crossIf moves k old new g σ = cond moves (crossEach k new (new - old) g σ) (still g σ)
 
 -- cells that cross were judged
-pub record SoundIf (moves : Bool) (t c count : ℕ) (g : List ℕ) : Type 0 where
-  pub sound : moves ≡ true → SoundCells t c count g
+pub record SoundIf (moves : Bool) (k : MicroCm) (g : List ℕ) : Type 0 where
+  pub sound : moves ≡ true → SoundCells (k .params .t) (k .params .c) (cellsOf k) g
 
--- the sub-windows before and after a call, and the item's own: where none begins it is the present one
-pub record SubWindows (k : MicroCm) (after : SubWindowClock) (old new n : ℕ) : Type 0 where
-  pub before-is : old ≡ nOf (k .clock)
-  pub after-is : new ≡ nOf after
-  pub grows : old ≤ new
-  pub own : new ≡ old → n ≡ old
+-- the sub-windows of a move to this clock: where none begins, an item is of the present one
+pub record Moves (k : MicroCm) (after : SubWindowClock) (at : SubWindows) : Type 0 where
+  pub before-is : at .old ≡ nOf (k .clock)
+  pub after-is : at .new ≡ nOf after
+  pub grows : at .old ≤ at .new
+  pub own-is : at .new ≡ at .old → at .own ≡ at .old
 
--- every cell of a sketch crosses, or stays as it is
-abbrev pub cross : MicroCm → Bool → ℕ → ℕ → List ℕ → ℕ → Step
-cross k moves old new g σ = crossIf moves (k .params .t) (k .params .c) (cellsOf k) old new g σ
+-- what was judged of an item: the sketch, the key and its cells, and every cell where n rises
+pub record Countable (k : MicroCm) (key g : List ℕ) (at : SubWindows) : Type 0 where
+  pub whole : sketchVerdict k g ≡ Accepted
+  pub fits : keyFits k key ≡ true
+  pub judged : Judged k g (cond (eqb (at .new) (at .old)) (keyCells k 0 key) (allCells k))
+  pub grows : at .old ≤ at .new
+  pub own-is : at .new ≡ at .old → at .own ≡ at .old
 
--- an item of sub-window n: the cells cross before it where it is not of the old one, and after it where it is not of the new
-unfoldable pub itemOf : MicroCm → List ℕ → ℕ → ℕ → ℕ → List ℕ → Step
-itemOf k key old new n g =
-    let before = cross k (not (eqb n old)) old new g (k .rounding .state) in
-    let recorded = insertEach k n (keyCells k 0 key) (before .bytes) (before .state) in
-    let last = cross k (not (eqb new n)) old new (recorded .bytes) (recorded .state) in
-    record { bytes = last .bytes; state = last .state; draws = before .draws + recorded .draws + last .draws }
+-- an item: the cells cross before it where it is not of the old sub-window, and after it where it is not of the new
+unfoldable pub itemOf : MicroCm → List ℕ → SubWindows → List ℕ → Step
+itemOf k key at g =
+    let before = crossIf (not (eqb (at .own) (at .old))) k (at .old) (at .new) g (k .rounding .state) in
+    let recorded = insertEach k (at .own) (keyCells k 0 key) (before .bytes) (before .state) in
+    let last = crossIf (not (eqb (at .new) (at .own))) k (at .old) (at .new) (recorded .bytes) (recorded .state) in
+    later (before .draws + recorded .draws) last
 
 -- and nothing is done where it is refused
-abbrev pub itemCounted : Verdict → MicroCm → List ℕ → ℕ → ℕ → ℕ → List ℕ → Step
-itemCounted v k key old new n g = whenAccepted v (itemOf k key old new n g) (still g (k .rounding .state))
+abbrev pub itemCounted : Verdict → MicroCm → List ℕ → SubWindows → List ℕ → Step
+itemCounted v k key at g = whenAccepted v (itemOf k key at g) (still g (k .rounding .state))
 
--- the grid that it leaves, with what it returned beside it
-abbrev pub countedOf : List ℕ → Counted → Step
-countedOf g r = record { bytes = g; state = r .state; draws = r .draws }
+-- what an item did
+abbrev pub outcome : Verdict → Passed → Counted
+outcome v p = record { verdict = v; passed = p }
+
+-- THE ANSWERS: of an accepted call, whose sketch goes on; and of an item, by its verdict
+abbrev pub wentOn : MicroCm → SubWindowClock → Passed → SketchAnswer
+wentOn k clock p = record { verdict = Accepted; sketch = taking k clock (p .state); draws = p .draws }
+
+abbrev pub countedAnswer : MicroCm → SubWindowClock → Counted → SketchAnswer
+countedAnswer k clock r = whenAccepted (r .verdict) (wentOn k clock (r .passed)) (undrawn (r .verdict) k)

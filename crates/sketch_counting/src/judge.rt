@@ -4,41 +4,40 @@ use clock::SubWindowClock;
 use refusal::Verdict;
 use sketch::MicroCm;
 ghost use mathlib.Core.Path.{_≡_};
-ghost use mathlib.Core.Bool.{not};
-ghost use lib.Dec.{eqb};
-ghost use Rattle.clock.specs.Clock.{nOf};
-ghost use Rattle.refusal.specs.declared.Verdict.the-variants.{Accepted};
-ghost use Rattle.refusal.specs.Refusals.{refuse, andThen};
+ghost use mathlib.Core.Bool.{cond};
+ghost use Rattle.refusal.specs.Refusals.{andThen};
 ghost use Rattle.sketch.specs.Refusals.{itemVerdict, moveVerdict};
+ghost use Rattle.sketch_counting.specs.Workers.{crossesTo, numbered};
 
-// 8 where the call is for the other kind of clock.
-pub fn kind(wrong: bool) -> Verdict
-    ensures { λ r. ⌜ r ≡ refuse 8 wrong Accepted ⌝ }
+// 8 where the call is for the other kind of clock, else 0.
+pub fn kind(wrong: bool) -> u8
+    ensures { λ r. ⌜ r ≡ cond wrong 8 0 ⌝ }
 {
     if wrong {
-        return Verdict::Refused(8);
+        return 8;
     }
-    Verdict::Accepted
+    0
 }
 
-// An item for a sketch that takes the clock `after` by it; `between` is what the call is told between 7 and 14.
+// An item for a sketch that takes the clock `after` by it; `between` is the number that it is told between
+// 7 and 14, and 0 where none is: as a verdict it would go through memory.
 pub fn item(
     sketch: MicroCm,
     key: &[u32],
     grid: &[u8],
     after: SubWindowClock,
     crosses: bool,
-    between: Verdict,
+    between: u8,
 ) -> Verdict
-    requires { ⌜ crosses ≡ not (eqb (nOf after) (nOf (sketch .clock))) ⌝ }
-    ensures { λ r. ⌜ r ≡ itemVerdict sketch (now (key .entry)) (now (grid .entry)) after (andThen between) ⌝ }
+    requires { ⌜ crosses ≡ crossesTo sketch after ⌝ }
+    ensures { λ r. ⌜ r ≡ itemVerdict sketch (now (key .entry)) (now (grid .entry)) after (andThen (numbered between)) ⌝ }
 {
     let keyed = sketch_judging::judge::keyed(sketch, &key[..], &grid[..]);
     if !keyed.accepted() {
         return keyed;
     }
-    if !between.accepted() {
-        return between;
+    if between != 0 {
+        return Verdict::Refused(between);
     }
     if crosses {
         return sketch_judging::judge::all_cells(sketch, &grid[..]);
@@ -52,17 +51,17 @@ pub fn movement(
     grid: &[u8],
     after: SubWindowClock,
     crosses: bool,
-    between: Verdict,
+    between: u8,
 ) -> Verdict
-    requires { ⌜ crosses ≡ not (eqb (nOf after) (nOf (sketch .clock))) ⌝ }
-    ensures { λ r. ⌜ r ≡ moveVerdict sketch (now (grid .entry)) after (andThen between) ⌝ }
+    requires { ⌜ crosses ≡ crossesTo sketch after ⌝ }
+    ensures { λ r. ⌜ r ≡ moveVerdict sketch (now (grid .entry)) after (andThen (numbered between)) ⌝ }
 {
     let verdict = sketch_judging::judge::sketch(sketch, &grid[..]);
     if !verdict.accepted() {
         return verdict;
     }
-    if !between.accepted() {
-        return between;
+    if between != 0 {
+        return Verdict::Refused(between);
     }
     if !crosses {
         return verdict;

@@ -2,6 +2,7 @@
 //
 // A call judges first and writes after: a refused one leaves the sketch and every byte of the grid as they came. A slice is
 // handed on as a part, `&key[..]`: whole, it would be copied through memory at each call.
+mod answer;
 mod judge;
 mod worker;
 
@@ -20,19 +21,7 @@ pub fn update(sketch: MicroCm, key: &[u32], grid: &mut [u8]) -> SketchAnswer
     let new = clock::worker::next_sub_window(clock, old);
     let between = judge::kind(!clock::worker::is_count(clock));
     let counted = worker::count(sketch, &key[..], grid, after, old, new, old, between);
-    let verdict = counted.verdict;
-    if !verdict.accepted() {
-        return SketchAnswer {
-            verdict,
-            sketch,
-            draws: 0,
-        };
-    }
-    SketchAnswer {
-        verdict,
-        sketch: worker::went_on(sketch, after, counted.state),
-        draws: counted.draws,
-    }
+    answer::counted(sketch, after, counted)
 }
 
 // One item on a clock of time. It is counted in the sub-window of its own time: the clock is moved before it.
@@ -45,19 +34,7 @@ pub fn update_at(sketch: MicroCm, key: &[u32], timestamp: u64, grid: &mut [u8]) 
     let new = clock::worker::sub_window(after);
     let between = judge::kind(clock::worker::is_count(clock));
     let counted = worker::count(sketch, &key[..], grid, after, old, new, new, between);
-    let verdict = counted.verdict;
-    if !verdict.accepted() {
-        return SketchAnswer {
-            verdict,
-            sketch,
-            draws: 0,
-        };
-    }
-    SketchAnswer {
-        verdict,
-        sketch: worker::went_on(sketch, after, counted.state),
-        draws: counted.draws,
-    }
+    answer::counted(sketch, after, counted)
 }
 
 // Time passes without an item.
@@ -66,29 +43,22 @@ pub fn advance_to(sketch: MicroCm, timestamp: u64, grid: &mut [u8]) -> SketchAns
 {
     let clock = sketch.clock;
     let rounding = sketch.rounding;
-    let params = sketch.params;
     let after = clock::worker::advanced(clock, timestamp);
     let old = clock::worker::sub_window(clock);
     let new = clock::worker::sub_window(after);
     let between = judge::kind(clock::worker::is_count(clock));
     let verdict = judge::movement(sketch, &grid[..], after, new != old, between);
     if !verdict.accepted() {
-        return SketchAnswer {
-            verdict,
-            sketch,
-            draws: 0,
-        };
+        return sketch_judging::answer::undrawn(verdict, sketch);
     }
     // Within its sub-window no cell is looked at. The crossing is called here and not by `worker::moved`: with one caller it
     // would be compiled into that, which every update runs through twice.
     if new == old {
-        return SketchAnswer {
-            verdict,
-            sketch: worker::went_on(sketch, after, rounding.state),
-            draws: 0,
-        };
+        let stayed = sketch_counting_passes::worker::passed(rounding.state, 0);
+        return answer::went_on(sketch, after, stayed);
     }
     let begun = new - old;
+    let params = sketch.params;
     let cells = sketch.rows * sketch.cols;
     let crossed = sketch_counting_passes::worker::cross_cells(
         grid,
@@ -99,9 +69,5 @@ pub fn advance_to(sketch: MicroCm, timestamp: u64, grid: &mut [u8]) -> SketchAns
         begun,
         rounding.state,
     );
-    SketchAnswer {
-        verdict,
-        sketch: worker::went_on(sketch, after, crossed.state),
-        draws: crossed.draws,
-    }
+    answer::went_on(sketch, after, crossed)
 }

@@ -3,61 +3,57 @@
 use crate::judge;
 use clock::SubWindowClock;
 use refusal::Verdict;
-use rounding::Rounding;
 use sketch::MicroCm;
 use sketch::Passed;
+use sketch_counting_passes::worker;
 ghost use mathlib.Core.Path.{_≡_};
 ghost use Prim.Native.Nat.{_*_, _≤_};
-ghost use Rattle.sketch.specs.Workers.{passOf};
-ghost use Rattle.sketch_counting.specs.Workers.{SoundIf, SubWindows, crossIf, itemCounted, countedOf};
 ghost use Rattle.refusal.specs.Refusals.{andThen};
+ghost use Rattle.sketch.specs.Sketch.{cellsOf};
 ghost use Rattle.sketch.specs.Refusals.{itemVerdict};
-ghost use Rattle.sketch.specs.Sketch.{taking};
+ghost use Rattle.sketch.specs.Workers.{passOf};
+ghost use Rattle.sketch_counting.specs.Workers.{SoundIf, Moves, Countable, windows, numbered, crossIf, itemOf, outcome, itemCounted};
 
 // What an item did. The sketch is not in it: whole, it would be copied on the way.
 pub struct Counted {
     pub verdict: Verdict,
-    pub state: u64,
-    pub draws: u64,
+    pub passed: Passed,
 }
 
-// The sketch with another clock and another random state.
-pub fn went_on(sketch: MicroCm, clock: SubWindowClock, state: u64) -> MicroCm
-    ensures { λ r. ⌜ r ≡ taking sketch clock state ⌝ }
+fn outcome(verdict: Verdict, passed: Passed) -> Counted
+    ensures { λ r. ⌜ r ≡ outcome verdict passed ⌝ }
 {
-    let params = sketch.params;
-    MicroCm {
-        rows: sketch.rows,
-        cols: sketch.cols,
-        params,
-        clock,
-        rounding: Rounding { state },
-    }
+    Counted { verdict, passed }
 }
 
 // Where n stays no cell is looked at.
-fn moved(
-    count: usize,
-    t: usize,
-    c: u32,
-    moves: bool,
-    old: u64,
-    new: u64,
-    state: u64,
-    grid: &mut [u8],
-) -> Passed
-    requires { ⌜ SoundIf moves t c count (now grid) × (old ≤ new) ⌝ }
-    ensures { λ r. ⌜ passOf (now (grid .exit)) r ≡ crossIf moves t c count old new (now (grid .entry)) state ⌝ }
-    ensures { λ r. ⌜ r .draws ≤ count * 4099 ⌝ }
+fn moved(sketch: MicroCm, grid: &mut [u8], moves: bool, old: u64, new: u64, state: u64) -> Passed
+    requires { ⌜ SoundIf moves sketch (now grid) × (old ≤ new) ⌝ }
+    ensures { λ r. ⌜ passOf (now (grid .exit)) r ≡ crossIf moves sketch old new (now (grid .entry)) state ⌝ }
+    ensures { λ r. ⌜ r .draws ≤ cellsOf sketch * 4099 ⌝ }
 {
     if moves {
         let begun = new - old;
-        return sketch_counting_passes::worker::cross_cells(grid, t, c, count, new, begun, state);
+        let params = sketch.params;
+        let cells = sketch.rows * sketch.cols;
+        return worker::cross_cells(grid, params.t, params.c, cells, new, begun, state);
     }
-    Passed { state, draws: 0 }
+    worker::passed(state, 0)
 }
 
-// An item of sub-window n: the cells cross before it where it is not of the old one, and after it where it is not of the new.
+// An accepted item: the cells cross before it where it is not of the old sub-window, and after it where it is not of the new.
+fn in_order(sketch: MicroCm, key: &[u32], grid: &mut [u8], old: u64, new: u64, n: u64) -> Passed
+    requires { ⌜ Countable sketch (now key) (now grid) (windows old new n) ⌝ }
+    ensures { λ r. ⌜ passOf (now (grid .exit)) r ≡ itemOf sketch (now (key .entry)) (windows old new n) (now (grid .entry)) ⌝ }
+{
+    let rounding = sketch.rounding;
+    let before = moved(sketch, grid, n != old, old, new, rounding.state);
+    let recorded = worker::insert_each(sketch, &key[..], grid, n, before.state);
+    let last = moved(sketch, grid, new != n, old, new, recorded.state);
+    worker::passed(last.state, before.draws + recorded.draws + last.draws)
+}
+
+// An item for a sketch that takes the clock `after` by it: judged first, and written only where it is accepted.
 pub fn count(
     sketch: MicroCm,
     key: &[u32],
@@ -66,37 +62,16 @@ pub fn count(
     old: u64,
     new: u64,
     n: u64,
-    between: Verdict,
+    between: u8,
 ) -> Counted
-    requires { ⌜ SubWindows sketch after old new n ⌝ }
-    ensures { λ r. ⌜ r .verdict ≡ itemVerdict sketch (now (key .entry)) (now (grid .entry)) after (andThen between) ⌝ }
-    ensures { λ r. ⌜ countedOf (now (grid .exit)) r ≡ itemCounted (r .verdict) sketch (now (key .entry)) old new n (now (grid .entry)) ⌝ }
+    requires { ⌜ Moves sketch after (windows old new n) ⌝ }
+    ensures { λ r. ⌜ r .verdict ≡ itemVerdict sketch (now (key .entry)) (now (grid .entry)) after (andThen (numbered between)) ⌝ }
+    ensures { λ r. ⌜ passOf (now (grid .exit)) (r .passed) ≡ itemCounted (r .verdict) sketch (now (key .entry)) (windows old new n) (now (grid .entry)) ⌝ }
 {
     let rounding = sketch.rounding;
     let verdict = judge::item(sketch, &key[..], &grid[..], after, new != old, between);
     if !verdict.accepted() {
-        return Counted {
-            verdict,
-            state: rounding.state,
-            draws: 0,
-        };
+        return outcome(verdict, worker::passed(rounding.state, 0));
     }
-    let params = sketch.params;
-    let t = params.t;
-    let c = params.c;
-    let cells = sketch.rows * sketch.cols;
-    let before = moved(cells, t, c, n != old, old, new, rounding.state, grid);
-    let recorded = sketch_counting_passes::worker::insert_each(
-        sketch,
-        &key[..],
-        grid,
-        n,
-        before.state,
-    );
-    let last = moved(cells, t, c, new != n, old, new, recorded.state, grid);
-    Counted {
-        verdict,
-        state: last.state,
-        draws: before.draws + recorded.draws + last.draws,
-    }
+    outcome(verdict, in_order(sketch, &key[..], grid, old, new, n))
 }

@@ -1,6 +1,6 @@
 -- `advance_to`: as `update_at` without an item: the clock alone is moved.
 use Rattle.sketch_counting.proofs.CallLaws.{advance-refused, advance-stays, advance-crossed}
-use Rattle.sketch_counting.proofs.KeptLaws.{move-cells-fit, move-sound}
+use Rattle.sketch_counting.proofs.KeptLaws.{move-fit, move-sound}
 use Rattle.sketch_counting.proofs.VerdictCases.{crosses-told}
 use borrow.Author.Needs.{needs}
 use Rattle.sketch_counting.proofs.advance_to.Statement.{statement}
@@ -27,11 +27,17 @@ movement-requires c κs = search (crosses-told, needs)
 accepted-requires : tie.Need-accepted-requires
 accepted-requires c κs = search needs
 
+undrawn-requires : tie.Need-undrawn-requires
+undrawn-requires c κs = search needs
+
 same-length : tie.Need-same-length
 same-length c = search needs
 
 returns : tie.Need-returns
 returns c = search (advance-refused, needs)
+
+passed-requires : tie.Need-passed-requires
+passed-requires c κs = search needs
 
 went-on-requires : tie.Need-went-on-requires
 went-on-requires c κs = search needs
@@ -40,16 +46,34 @@ same-length-2 : tie.Need-same-length-2
 same-length-2 c = search needs
 
 returns-2 : tie.Need-returns-2
-returns-2 c = search (advance-stays, needs)
+returns-2 c =
+    let stays = c .before .before in
+    let passed = stays .before in
+    let judged = passed .before .before in
+    let told = judged .before .before in
+    let after = told .before .before in
+    advance-stays _ _ _ _ _ _ _ _ _ _ _ _ (c .went-on .ensures) (c .before .passed .ensures) (judged .movement .ensures)
+    (passed .before .accepted .ensures) (passed .if1 .left) (told .kind .ensures) (told .before .is-count .ensures)
+    (after .before .before .advanced .ensures) (after .before .sub-window .ensures) (after .sub-window2 .ensures) (stays .if2 .taken)
 
 sub-begun : tie.Need-sub-begun
 sub-begun c = search needs
 
 mul-cells : tie.Need-mul-cells
-mul-cells c = record { fits = search (move-cells-fit, needs) }
+mul-cells c = record { fits = search (move-fit, needs) }
 
 cross-cells-requires : tie.Need-cross-cells-requires
-cross-cells-requires c κs = (search (move-sound, needs), search needs)
+cross-cells-requires c κs =
+    let cells = c .before .before in
+    let rose = cells .before in
+    let passed = rose .before in
+    let judged = passed .before .before in
+    let told = judged .before .before in
+    let after = told .before .before in
+    let begun = after .before .before in
+    let known = begun .before .before in
+    move-sound (known .before .args .sketch) _ _ (told .kind .result) _ _ (judged .movement .ensures) (passed .before .accepted .ensures)
+    (passed .if1 .left) _ _ (after .sub-window2 .ensures) (after .before .sub-window .ensures) (rose .if2 .left)
 
 went-on-requires-2 : tie.Need-went-on-requires-2
 went-on-requires-2 c κs = search needs
@@ -59,13 +83,17 @@ same-length-3 c = search needs
 
 returns-3 : tie.Need-returns-3
 returns-3 c =
-    let crossed = c .before .before in
-    let rose = crossed .before .before .before .before in
+    let written = c .before .before in
+    let crossed = written .before in
+    let cells = crossed .before .before in
+    let rose = cells .before .before in
     let passed = rose .before in
     let judged = passed .before .before in
-    let kept = judged .before .before in
-    let after = kept .before .before in
-    advance-crossed _ _ _ _ (kept .before .is-count .ensures) _ _ (after .before .before .advanced .ensures) (kept .kind .ensures) _ (judged .movement .ensures) _ (passed .before .accepted .ensures) (passed .if1 .left) _ _ (after .before .sub-window .ensures) (after .sub-window2 .ensures) (rose .if2 .left) _ _ (crossed .before .cross-cells .ensures .0) _ (c .went-on2 .ensures)
+    let told = judged .before .before in
+    let after = told .before .before in
+    advance-crossed _ _ _ _ _ _ _ _ _ _ _ _ _ (c .went-on2 .ensures) (crossed .cross-cells .ensures .0) (judged .movement .ensures)
+    (passed .before .accepted .ensures) (passed .if1 .left) (told .kind .ensures) (told .before .is-count .ensures)
+    (after .before .before .advanced .ensures) (after .before .sub-window .ensures) (after .sub-window2 .ensures)
 
 pub advance-to-spec : {M : Type 1} → statement M
 advance-to-spec =
@@ -78,8 +106,10 @@ advance-to-spec =
     kind-requires
     movement-requires
     accepted-requires
+    undrawn-requires
     same-length
     returns
+    passed-requires
     went-on-requires
     same-length-2
     returns-2

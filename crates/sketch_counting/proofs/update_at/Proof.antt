@@ -1,6 +1,5 @@
 -- `update_at`: as `update`, with the item in the sub-window of its own time.
-use Rattle.sketch_counting.proofs.CallLaws.{advanced-windows, update-at-refused, update-at-done}
-use mathlib.Core.Path.{refl}
+use Rattle.sketch_counting.proofs.CallLaws.{advanced-windows, update-at-done}
 use borrow.Author.Needs.{needs}
 use Rattle.sketch_counting.proofs.update_at.Statement.{statement}
 use Rattle.sketch_counting.proofs.update_at.Tie as tie
@@ -23,23 +22,14 @@ kind-requires c κs = search needs
 count-requires : tie.Need-count-requires
 count-requires c κs = search (advanced-windows, needs)
 
-accepted-requires : tie.Need-accepted-requires
-accepted-requires c κs = search needs
+counted-requires : tie.Need-counted-requires
+counted-requires c κs = search needs
 
 same-length : tie.Need-same-length
 same-length c = search needs
 
 returns : tie.Need-returns
-returns c = search (update-at-refused, needs)
-
-went-on-requires : tie.Need-went-on-requires
-went-on-requires c κs = search needs
-
-same-length-2 : tie.Need-same-length-2
-same-length-2 c = search needs
-
-returns-2 : tie.Need-returns-2
-returns-2 c = search (update-at-done, advanced-windows, needs)
+returns c = search (update-at-done, needs)
 
 pub update-at-spec : {M : Type 1} → statement M
 update-at-spec =
@@ -51,9 +41,6 @@ update-at-spec =
     is-count-requires
     kind-requires
     count-requires
-    accepted-requires
+    counted-requires
     same-length
-    returns
-    went-on-requires
-    same-length-2
-    returns-2)
+    returns)

@@ -13,9 +13,6 @@ accepted-requires c κs = search needs
 returns : tie.Need-returns
 returns c = search (item-refused, needs)
 
-accepted-requires-2 : tie.Need-accepted-requires-2
-accepted-requires-2 c κs = search needs
-
 returns-2 : tie.Need-returns-2
 returns-2 c = search (item-between, needs)
 
@@ -38,7 +35,6 @@ item-spec =
     keyed-requires
     accepted-requires
     returns
-    accepted-requires-2
     returns-2
     all-cells-requires
     returns-3

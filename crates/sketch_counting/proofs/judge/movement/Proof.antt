@@ -13,16 +13,8 @@ accepted-requires c κs = search needs
 returns : tie.Need-returns
 returns c = search (movement-refused, needs)
 
-accepted-requires-2 : tie.Need-accepted-requires-2
-accepted-requires-2 c κs = search needs
-
 returns-2 : tie.Need-returns-2
-returns-2 c =
-    let whole = c .before .before in
-    let judged = whole .before .before in
-    let a = judged .before .before .args in
-    movement-between (a .sketch) (a .grid .now) (a .after) _ _ (judged .sketch .ensures) _ (whole .before .accepted .ensures) (whole .if1 .left) _
-    (c .before .accepted2 .ensures) (c .if2 .taken)
+returns-2 c = search (movement-between, needs)
 
 returns-3 : tie.Need-returns-3
 returns-3 c = search (movement-none, needs)
@@ -40,7 +32,6 @@ movement-spec =
     sketch-requires
     accepted-requires
     returns
-    accepted-requires-2
     returns-2
     returns-3
     all-cells-requires
