@@ -61,7 +61,17 @@ fits rows cols f =
 limits : Limits
 unfolding gridFits bitsUpTo
 limits =
-    record { least = refl; no-row = refl; one-col = refl; no-power = refl; most-cols = refl; too-many-bits = refl; too-many-cols = refl; most-rows = refl; too-many-rows = refl }
+    record {
+      least = refl;
+      no-row = refl;
+      one-col = refl;
+      no-power = refl;
+      most-cols = refl;
+      too-many-bits = refl;
+      too-many-cols = refl;
+      most-rows = refl;
+      too-many-rows = refl;
+    }
 
 -- A KEY
 module _ (k : MicroCm) (key : List ℕ) where
