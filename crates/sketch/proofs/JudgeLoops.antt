@@ -7,7 +7,6 @@ use native.Mathlib.Omega.{arith}
 use native.Mathlib.Nat.{add-sub-cancel-left, sub-zero}
 use native.Mathlib.Numerals.{add-one}
 use lib.ListN.{length, take, drop, drop-of-length-le}
-use lib.Seq.{drop-cons}
 use borrow.Author.Tests.{not-true, not-false}
 use Rattle.refusal.specs.declared.Verdict.{Verdict}
 use Rattle.refusal.specs.declared.Verdict.the-variants.{Accepted, Unsound}
@@ -16,6 +15,7 @@ use Rattle.sketch.specs.declared.MicroCm.{MicroCm}
 use Rattle.sketch.specs.Sketch.{cellsOf, cellOf, keyCells, countFrom, allCells}
 use Rattle.sketch.specs.Figures.{keyCell}
 use Rattle.sketch.specs.Audit.{firstUnsound}
+use Rattle.sketch.proofs.KeyCellLaws.{row-cons}
 
 module _ (k : MicroCm) (g : List ℕ) where
   abbrev soundAt : ℕ → Bool
@@ -46,17 +46,13 @@ module _ (k : MicroCm) (g : List ℕ) where
     key-begin = record { same = refl }
 
     module _ (row : ℕ) (w : KeyLeft row) where
-      row-cons : row < length key → keyCells k row (drop row key) ≡ keyCell k key row ∷ keyCells k (suc row) (drop (suc row) key)
-      unfolding keyCells
-      row-cons h = rw (drop-cons key row 0 h) refl
-
       module _ (more : row < length key) (index : ℕ) (ei : index ≡ keyCell k key row) (ok : Bool) (eo : ok ≡ soundAt index) where
         pub key-found : not ok ≡ true → Unsound index ≡ firstUnsound Unsound Accepted k g (keyCells k 0 key)
-        key-found n = sym (w .same ∙ ap verdictOf (row-cons more) ∙ cell-bad (keyCell k key row) _ (rw (← ei, ← eo) (not-true ok n)) ∙ ap Unsound (sym ei))
+        key-found n = sym (w .same ∙ ap verdictOf (row-cons k key row more) ∙ cell-bad (keyCell k key row) _ (rw (← ei, ← eo) (not-true ok n)) ∙ ap Unsound (sym ei))
 
         pub key-on : not ok ≡ false → KeyLeft (row + 1)
         key-on n =
-            record { same = w .same ∙ ap verdictOf (row-cons more) ∙ cell-first (keyCell k key row) _ (rw (← ei, ← eo) (not-false ok n)) ∙ rw add-one refl }
+            record { same = w .same ∙ ap verdictOf (row-cons k key row more) ∙ cell-first (keyCell k key row) _ (rw (← ei, ← eo) (not-false ok n)) ∙ rw add-one refl }
 
       pub key-end : length key ≤ row → Accepted ≡ firstUnsound Unsound Accepted k g (keyCells k 0 key)
       unfolding firstUnsound keyCells

@@ -1,20 +1,27 @@
 -- The key's cell in a row, as the code lends it: a part of the grid that is that cell, of its depth, and sound. Assumes nothing.
-use Prim.Native.Nat.{ℕ, _+_, _-_, _*_, _^_, _≤_, _<_}
+use Prim.Native.Nat.{ℕ, suc, _+_, _-_, _*_, _^_, _≤_, _<_}
 use mathlib.Core.Path.{_≡_, refl, _∙_}
 use mathlib.Core.Bool.{true}
-use mathlib.Core.List.{List}
+use mathlib.Core.List.{List, _∷_}
 use native.Mathlib.Nat.{add-sub-cancel-left, zero-add}
 use lib.ListN.{length, take, drop}
+use lib.Seq.{drop-cons}
 use Rattle.laws.proofs.PartLaws.{part-length}
 use Rattle.cell.specs.Cell.{depthOf, zoomOf, shutterOf, unitOf, soundOf}
 use Rattle.cell.proofs.SoundLaws.{sound-unit, sound-shutter}
 use Rattle.clock.specs.Clock.{nOf}
 use Rattle.sketch.specs.declared.MicroCm.{MicroCm}
-use Rattle.sketch.specs.Sketch.{cellOf}
+use Rattle.sketch.specs.Sketch.{cellOf, keyCells}
 use Rattle.sketch.specs.Figures.{itemsIn, keyCell, rowItems}
 use Rattle.sketch.specs.Workers.{Readable, rowUnit}
 use Rattle.sketch.proofs.AddressLaws.{key-rows}
 use Rattle.sketch.proofs.JudgedLaws.{judged-key}
+
+-- the key's cells from a row on: that row's, and those behind it
+pub row-cons : (k : MicroCm) (key : List ℕ) (row : ℕ) → row < length key
+    → keyCells k row (drop row key) ≡ keyCell k key row ∷ keyCells k (suc row) (drop (suc row) key)
+unfolding keyCells
+row-cons k key row h = rw (drop-cons key row 0 h) refl
 
 module _ (k : MicroCm) (g key : List ℕ) (w : Readable k key g) (row : ℕ) (h : row < k .rows) where
   pub row-sound : soundOf (k .params .t) (k .params .c) (cellOf k g (keyCell k key row)) ≡ true

@@ -7,7 +7,6 @@ use native.Mathlib.Omega.{arith}
 use native.Mathlib.Nat.{add-assoc, zero-add, add-zero, add-mul, le-trans, mul-le-mul-right}
 use native.Mathlib.Numerals.{add-one}
 use lib.ListN.{length, drop, getD, drop-of-length-le}
-use lib.Seq.{drop-cons}
 use Rattle.laws.specs.Steps.{Step, later}
 use Rattle.cell.specs.declared.Drawn as cell
 use Rattle.cell.specs.Cell.{depthOf, soundOf}
@@ -19,6 +18,7 @@ use Rattle.sketch.specs.Figures.{keyCell}
 use Rattle.sketch.specs.Refusals.{keyFits}
 use Rattle.sketch.specs.Audit.{firstUnsound}
 use Rattle.sketch.specs.Workers.{Ready, Judged, Readable, passOf}
+use Rattle.sketch.proofs.KeyCellLaws.{row-cons}
 use Rattle.sketch.proofs.AddressLaws.{key-rows, key-column, key-row}
 use Rattle.sketch.proofs.JudgedLaws.{judged-cons, cons-judged}
 use Rattle.sketch.proofs.GridLaws.{at-other, at-length}
@@ -59,12 +59,8 @@ module _ (k : MicroCm) (n : ℕ) (key g₀ : List ℕ) (σ₀ : ℕ) where
   recording-begin w = record { done = simp zero-add; judged = w .judged; ready = w .ready; few = omega arith; most = omega arith }
 
   module _ (g : List ℕ) (σ drawn row : ℕ) (w : Recording g σ drawn row) where
-    row-cons : row < length key → keyCells k row (drop row key) ≡ keyCell k key row ∷ keyCells k (suc row) (drop (suc row) key)
-    unfolding keyCells
-    row-cons h = rw (drop-cons key row 0 h) refl
-
     pub row-sound : (index : ℕ) → index ≡ keyCell k key row → row < length key → soundOf (k .params .t) (k .params .c) (cellOf k g index) ≡ true
-    row-sound index e h = rw e (judged-cons k g (keyCell k key row) _ (rw (row-cons h) at (w .judged)) .0)
+    row-sound index e h = rw e (judged-cons k g (keyCell k key row) _ (rw (row-cons k key row h) at (w .judged)) .0)
 
     module _ (fits : keyFits k key ≡ true) (index : ℕ) (ys : List ℕ) (r : cell.Drawn) (more : row < length key) (ei : index ≡ keyCell k key row)
         (inside : index < cellsOf k) (es : stepOf ys r ≡ insertAt k n index g σ) where
@@ -85,10 +81,10 @@ module _ (k : MicroCm) (n : ℕ) (key g₀ : List ℕ) (σ₀ : ℕ) where
 
       pub recording-on : r .draws ≤ 4098 → Recording ys (r .state) (drawn + r .draws) (row + 1)
       recording-on few = record {
-        done = w .done ∙ ap (λ (js : List ℕ). later drawn (insertEach k n js g σ)) (row-cons more) ∙ next;
+        done = w .done ∙ ap (λ (js : List ℕ). later drawn (insertEach k n js g σ)) (row-cons k key row more) ∙ next;
         judged = rw (add-one, bytes-are) (judged-same k g (insertAt k n index g σ .bytes) (suc row) (drop (suc row) key)
             (λ i l. at-other k fit n index g σ room inside i (apart i l))
-            (judged-cons k g (keyCell k key row) _ (rw (row-cons more) at (w .judged)) .1));
+            (judged-cons k g (keyCell k key row) _ (rw (row-cons k key row more) at (w .judged)) .1));
         ready = rw (bytes-are, at-length k fit n index g σ room inside) (w .ready);
         few = omega (arith, w .few);
         most = omega arith;
