@@ -10,9 +10,9 @@ use borrow.Author.Tests.{eqb-false, ne-eqb, not-true}
 use Rattle.laws.specs.Steps.{Step, still}
 use Rattle.refusal.specs.declared.Verdict.{Verdict}
 use Rattle.refusal.specs.declared.Verdict.the-variants.{Accepted, Unsound}
-use Rattle.refusal.specs.Refusals.{isAccepted, andThen}
-use Rattle.refusal.proofs.VerdictLaws.{let-pass}
-use Rattle.refusal.proofs.GateLaws.{both-accepted, gate-passed}
+use Rattle.refusal.specs.Refusals.{isAccepted, refuse}
+use Rattle.refusal.proofs.VerdictLaws.{let-pass, not-refused}
+use Rattle.refusal.proofs.GateLaws.{gate-passed}
 use Rattle.clock.specs.declared.SubWindowClock.{SubWindowClock}
 use Rattle.clock.specs.Clock.{nOf}
 use Rattle.sketch.specs.declared.MicroCm.{MicroCm}
@@ -27,27 +27,27 @@ use Rattle.sketch.proofs.KeyLaws.{key-cells-below}
 use Rattle.sketch.proofs.WorldLaws.{Good, fits-key, none-unsound, insert-each-good, cross-each-good}
 use Rattle.sketch.proofs.ReadyLaws.{ready-of, alive-of, keyed-ready}
 use Rattle.sketch.proofs.SketchGates.{sketch-gate}
-use Rattle.sketch_counting.specs.Workers.{SubWindows, SoundIf, Moves, Countable, numbered, crossIf}
+use Rattle.sketch_counting.specs.Workers.{SubWindows, SoundIf, Moves, Countable, crossIf}
 use Rattle.sketch_counting.proofs.VerdictCases.{keyed, keyed-gate}
 
 good-of : (k : MicroCm) (g : List ℕ) → sketchVerdict k g ≡ Accepted → Judged k g (allCells k) → Good k g (k .rounding .state)
 good-of k g e w = record { whole = ready-of k g e .size-is; alive = alive-of k g e; sound = λ j l. judged-all k g j w l }
 
 -- AN ITEM that was accepted
-module _ (k : MicroCm) (key g : List ℕ) (clock : SubWindowClock) (between : ℕ) (v : Verdict) (ev : v ≡ itemVerdict k key g clock (andThen (numbered between)))
-    (ok : Bool) (asked : ok ≡ isAccepted v) (a : not ok ≡ false) where
+module _ (k : MicroCm) (key g : List ℕ) (clock : SubWindowClock) (number : ℕ) (holds : Bool) (v : Verdict)
+    (ev : v ≡ itemVerdict k key g clock (refuse number holds)) (ok : Bool) (asked : ok ≡ isAccepted v) (a : not ok ≡ false) where
   abbrev cells : Verdict
   cells = refuseUnsound k g (judgedCells k clock (keyCells k 0 key)) Accepted
 
-  passed : (keyed k key g Accepted ≡ Accepted) × (andThen (numbered between) cells ≡ Accepted)
-  passed = gate-passed (keyed k key g) (keyed-gate k key g) (andThen (numbered between) cells) (sym ev ∙ let-pass v ok asked a)
+  passed : (keyed k key g Accepted ≡ Accepted) × (refuse number holds cells ≡ Accepted)
+  passed = gate-passed (keyed k key g) (keyed-gate k key g) (refuse number holds cells) (sym ev ∙ let-pass v ok asked a)
 
   pub item-countable : (at : SubWindows) → Moves k clock at → Countable k key g at
   item-countable at w =
       record {
         whole = gate-passed (refuseSketch k g) (sketch-gate k g) (refuseKey k key Accepted) (passed .0) .0;
         fits = keyed-ready k key g (passed .0) .1;
-        judged = rw (w .before-is, w .after-is) (both-accepted (numbered between) cells (passed .1) .1);
+        judged = rw (w .before-is, w .after-is) (not-refused number holds cells (passed .1) .1);
         grows = w .grows;
         own-is = w .own-is;
       }
@@ -142,13 +142,13 @@ pub last-sound : (k : MicroCm) (key g : List ℕ) (at : SubWindows) (l m : List 
 last-sound k key g at l m r p er ep w = (sound-last k key g at w l (r .state) (inserted-good k key g at w m p ep l r er), w .grows)
 
 -- NO ITEM, accepted
-module _ (k : MicroCm) (g : List ℕ) (clock : SubWindowClock) (between : ℕ) (v : Verdict) (ok : Bool)
-    (ev : v ≡ moveVerdict k g clock (andThen (numbered between))) (asked : ok ≡ isAccepted v) (a : not ok ≡ false) where
+module _ (k : MicroCm) (g : List ℕ) (clock : SubWindowClock) (number : ℕ) (holds : Bool) (v : Verdict) (ok : Bool)
+    (ev : v ≡ moveVerdict k g clock (refuse number holds)) (asked : ok ≡ isAccepted v) (a : not ok ≡ false) where
   abbrev all : Verdict
   all = refuseUnsound k g (judgedCells k clock []) Accepted
 
-  let-through : (sketchVerdict k g ≡ Accepted) × (andThen (numbered between) all ≡ Accepted)
-  let-through = gate-passed (refuseSketch k g) (sketch-gate k g) (andThen (numbered between) all) (sym ev ∙ let-pass v ok asked a)
+  let-through : (sketchVerdict k g ≡ Accepted) × (refuse number holds all ≡ Accepted)
+  let-through = gate-passed (refuseSketch k g) (sketch-gate k g) (refuse number holds all) (sym ev ∙ let-pass v ok asked a)
 
   move-ready : Ready k (length g)
   move-ready = ready-of k g (let-through .0)
@@ -158,7 +158,7 @@ module _ (k : MicroCm) (g : List ℕ) (clock : SubWindowClock) (between : ℕ) (
 
   -- where n rises every cell was judged
   pub move-sound : (old new : ℕ) → new ≡ nOf clock → old ≡ nOf (k .clock) → (new ≡ old → ⊥)
-      → SoundCells (k .params .t) (k .params .c) (cellsOf k) g × (new - old ≤ new)
+      → SoundCells (k .params .t) (k .params .c) (cellsOf k) g
   move-sound old new en eo rose =
       let rises = ne-eqb (nOf clock) (nOf (k .clock)) (λ e. rose (en ∙ e ∙ sym eo)) in
-      (sound-cells k g move-ready (rw rises at (both-accepted (numbered between) all (let-through .1) .1)), omega arith)
+      sound-cells k g move-ready (rw rises at (not-refused number holds all (let-through .1) .1))

@@ -5,10 +5,10 @@ use mathlib.Core.Bool.{Bool, true, false, not}
 use mathlib.Core.List.{List, []}
 use lib.Dec.{eqb}
 use lib.ListN.{length}
-use borrow.Author.Tests.{ne-eqb, not-true, not-false}
+use borrow.Author.Tests.{not-true, not-false}
 use Rattle.refusal.specs.declared.Verdict.{Verdict}
 use Rattle.refusal.specs.declared.Verdict.the-variants.{Accepted, Refused}
-use Rattle.refusal.specs.Refusals.{isAccepted, andThen}
+use Rattle.refusal.specs.Refusals.{isAccepted, refuse}
 use Rattle.refusal.proofs.VerdictLaws.{turned-back, let-pass, refuse-then}
 use Rattle.refusal.proofs.GateLaws.{Gate, gate-chain, gate-open, gate-shut}
 use Rattle.clock.specs.declared.SubWindowClock.{SubWindowClock}
@@ -20,7 +20,7 @@ use Rattle.sketch.specs.Audit.{firstUnsound}
 use Rattle.sketch.specs.Workers.{Ready}
 use Rattle.sketch.proofs.ReadyLaws.{ready-of, keyed-ready}
 use Rattle.sketch.proofs.SketchGates.{sketch-gate}
-use Rattle.sketch_counting.specs.Workers.{crossesTo, numbered}
+use Rattle.sketch_counting.specs.Workers.{crossesTo}
 
 -- 1 to 7
 abbrev pub keyed : MicroCm → List ℕ → List ℕ → Verdict → Verdict
@@ -42,9 +42,9 @@ module _ (k : MicroCm) (g : List ℕ) (after : SubWindowClock) (rises : Bool) (e
   cells-stay h = rw (not-false (eqb (nOf after) (nOf (k .clock))) (sym er ∙ h)) refl
 
 -- AN ITEM
-module _ (k : MicroCm) (key g : List ℕ) (after : SubWindowClock) (between : ℕ) (v : Verdict) (ev : v ≡ keyed k key g Accepted)
+module _ (k : MicroCm) (key g : List ℕ) (after : SubWindowClock) (number : ℕ) (holds : Bool) (v : Verdict) (ev : v ≡ keyed k key g Accepted)
     (ok : Bool) (asked : ok ≡ isAccepted v) where
-  pub item-refused : not ok ≡ true → v ≡ itemVerdict k key g after (andThen (numbered between))
+  pub item-refused : not ok ≡ true → v ≡ itemVerdict k key g after (refuse number holds)
   item-refused n = sym (gate-shut (keyed k key g) (keyed-gate k key g) _ v ev (turned-back v ok asked n))
 
   module _ (a : not ok ≡ false) where
@@ -57,41 +57,41 @@ module _ (k : MicroCm) (key g : List ℕ) (after : SubWindowClock) (between : �
     pub item-fits : keyFits k key ≡ true
     item-fits = keyed-ready k key g passed .1
 
-    between-left : itemVerdict k key g after (andThen (numbered between))
-        ≡ andThen (numbered between) (refuseUnsound k g (judgedCells k after (keyCells k 0 key)) Accepted)
+    between-left : itemVerdict k key g after (refuse number holds)
+        ≡ refuse number holds (refuseUnsound k g (judgedCells k after (keyCells k 0 key)) Accepted)
     between-left = gate-open (keyed k key g) (keyed-gate k key g) _ passed
 
-    pub item-between : (between ≡ 0 → ⊥) → Refused between ≡ itemVerdict k key g after (andThen (numbered between))
-    item-between n = sym (between-left ∙ rw (ne-eqb between 0 n) refl)
+    pub item-between : holds ≡ true → Refused number ≡ itemVerdict k key g after (refuse number holds)
+    item-between h = sym (between-left ∙ rw h refl)
 
-    module _ (none : between ≡ 0) (rises : Bool) (er : rises ≡ crossesTo k after) (u : Verdict) where
-      pub item-all : rises ≡ true → u ≡ refuseUnsound k g (allCells k) Accepted → u ≡ itemVerdict k key g after (andThen (numbered between))
+    module _ (none : holds ≡ false) (rises : Bool) (er : rises ≡ crossesTo k after) (u : Verdict) where
+      pub item-all : rises ≡ true → u ≡ refuseUnsound k g (allCells k) Accepted → u ≡ itemVerdict k key g after (refuse number holds)
       item-all h e = e ∙ sym (between-left ∙ rw none (cells-all k g after rises er (keyCells k 0 key) h))
 
-      pub item-key : rises ≡ false → u ≡ refuseUnsound k g (keyCells k 0 key) Accepted → u ≡ itemVerdict k key g after (andThen (numbered between))
+      pub item-key : rises ≡ false → u ≡ refuseUnsound k g (keyCells k 0 key) Accepted → u ≡ itemVerdict k key g after (refuse number holds)
       item-key h e = e ∙ sym (between-left ∙ rw none (cells-stay k g after rises er (keyCells k 0 key) h))
 
 -- NO ITEM
-module _ (k : MicroCm) (g : List ℕ) (after : SubWindowClock) (between : ℕ) (v : Verdict) (ev : v ≡ sketchVerdict k g)
+module _ (k : MicroCm) (g : List ℕ) (after : SubWindowClock) (number : ℕ) (holds : Bool) (v : Verdict) (ev : v ≡ sketchVerdict k g)
     (ok : Bool) (asked : ok ≡ isAccepted v) where
-  pub movement-refused : not ok ≡ true → v ≡ moveVerdict k g after (andThen (numbered between))
+  pub movement-refused : not ok ≡ true → v ≡ moveVerdict k g after (refuse number holds)
   movement-refused n = sym (gate-shut (refuseSketch k g) (sketch-gate k g) _ v ev (turned-back v ok asked n))
 
   module _ (a : not ok ≡ false) where
     pub movement-ready : Ready k (length g)
     movement-ready = ready-of k g (sym ev ∙ let-pass v ok asked a)
 
-    movement-left : moveVerdict k g after (andThen (numbered between)) ≡ andThen (numbered between) (refuseUnsound k g (judgedCells k after []) Accepted)
+    movement-left : moveVerdict k g after (refuse number holds) ≡ refuse number holds (refuseUnsound k g (judgedCells k after []) Accepted)
     movement-left = gate-open (refuseSketch k g) (sketch-gate k g) _ (sym ev ∙ let-pass v ok asked a)
 
-    pub movement-between : (between ≡ 0 → ⊥) → Refused between ≡ moveVerdict k g after (andThen (numbered between))
-    movement-between n = sym (movement-left ∙ rw (ne-eqb between 0 n) refl)
+    pub movement-between : holds ≡ true → Refused number ≡ moveVerdict k g after (refuse number holds)
+    movement-between h = sym (movement-left ∙ rw h refl)
 
-    module _ (none : between ≡ 0) (rises : Bool) (er : rises ≡ crossesTo k after) where
-      pub movement-none : not rises ≡ true → v ≡ moveVerdict k g after (andThen (numbered between))
+    module _ (none : holds ≡ false) (rises : Bool) (er : rises ≡ crossesTo k after) where
+      pub movement-none : not rises ≡ true → v ≡ moveVerdict k g after (refuse number holds)
       unfolding firstUnsound
       movement-none h = let-pass v ok asked a ∙ sym (movement-left ∙ rw none (cells-stay k g after rises er [] (not-true rises h)))
 
       pub movement-all : not rises ≡ false → (u : Verdict) → u ≡ refuseUnsound k g (allCells k) Accepted
-          → u ≡ moveVerdict k g after (andThen (numbered between))
+          → u ≡ moveVerdict k g after (refuse number holds)
       movement-all h u e = e ∙ sym (movement-left ∙ rw none (cells-all k g after rises er [] (not-false rises h)))

@@ -7,7 +7,7 @@ use lib.Dec.{eqb}
 use Rattle.laws.specs.Steps.{Step, still, later}
 use Rattle.refusal.specs.declared.Verdict.{Verdict}
 use Rattle.refusal.specs.declared.Verdict.the-variants.{Accepted}
-use Rattle.refusal.specs.Refusals.{refuse, whenAccepted}
+use Rattle.refusal.specs.Refusals.{whenAccepted}
 use Rattle.clock.specs.declared.SubWindowClock.{SubWindowClock}
 use Rattle.clock.specs.Clock.{nOf}
 use Rattle.sketch.specs.declared.MicroCm.{MicroCm}
@@ -30,10 +30,6 @@ windows old new n = record { old = old; new = new; own = n }
 -- n differs by the move to this clock
 abbrev pub crossesTo : MicroCm → SubWindowClock → Bool
 crossesTo k after = not (eqb (nOf after) (nOf (k .clock)))
-
--- refused by this number, and accepted by 0
-abbrev pub numbered : ℕ → Verdict
-numbered n = refuse n (not (eqb n 0)) Accepted
 
 -- every cell crosses, or stays as it is
 abbrev pub crossIf : Bool → MicroCm → ℕ → ℕ → List ℕ → ℕ → Step

@@ -19,8 +19,8 @@ pub fn update(sketch: MicroCm, key: &[u32], grid: &mut [u8]) -> SketchAnswer
     let after = clock::worker::ticked(clock);
     let old = clock::worker::sub_window(clock);
     let new = clock::worker::next_sub_window(clock, old);
-    let between = judge::kind(!clock::worker::is_count(clock));
-    let counted = worker::count(sketch, &key[..], grid, after, old, new, old, between);
+    let wrong = !clock::worker::is_count(clock);
+    let counted = worker::count(sketch, &key[..], grid, after, old, new, old, 8, wrong);
     answer::counted(sketch, after, counted)
 }
 
@@ -32,8 +32,8 @@ pub fn update_at(sketch: MicroCm, key: &[u32], timestamp: u64, grid: &mut [u8]) 
     let after = clock::worker::advanced(clock, timestamp);
     let old = clock::worker::sub_window(clock);
     let new = clock::worker::sub_window(after);
-    let between = judge::kind(clock::worker::is_count(clock));
-    let counted = worker::count(sketch, &key[..], grid, after, old, new, new, between);
+    let wrong = clock::worker::is_count(clock);
+    let counted = worker::count(sketch, &key[..], grid, after, old, new, new, 8, wrong);
     answer::counted(sketch, after, counted)
 }
 
@@ -46,8 +46,8 @@ pub fn advance_to(sketch: MicroCm, timestamp: u64, grid: &mut [u8]) -> SketchAns
     let after = clock::worker::advanced(clock, timestamp);
     let old = clock::worker::sub_window(clock);
     let new = clock::worker::sub_window(after);
-    let between = judge::kind(clock::worker::is_count(clock));
-    let verdict = judge::movement(sketch, &grid[..], after, new != old, between);
+    let wrong = clock::worker::is_count(clock);
+    let verdict = judge::movement(sketch, &grid[..], after, new != old, 8, wrong);
     if !verdict.accepted() {
         return sketch_judging::answer::undrawn(verdict, sketch);
     }

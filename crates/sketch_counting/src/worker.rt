@@ -8,11 +8,11 @@ use sketch::Passed;
 use sketch_counting_passes::worker;
 ghost use mathlib.Core.Path.{_≡_};
 ghost use Prim.Native.Nat.{_*_, _≤_};
-ghost use Rattle.refusal.specs.Refusals.{andThen};
+ghost use Rattle.refusal.specs.Refusals.{refuse};
 ghost use Rattle.sketch.specs.Sketch.{cellsOf};
 ghost use Rattle.sketch.specs.Refusals.{itemVerdict};
 ghost use Rattle.sketch.specs.Workers.{passOf};
-ghost use Rattle.sketch_counting.specs.Workers.{SoundIf, Moves, Countable, windows, numbered, crossIf, itemOf, outcome, itemCounted};
+ghost use Rattle.sketch_counting.specs.Workers.{SoundIf, Moves, Countable, windows, crossIf, itemOf, outcome, itemCounted};
 
 // What an item did. The sketch is not in it: whole, it would be copied on the way.
 pub struct Counted {
@@ -62,14 +62,23 @@ pub fn count(
     old: u64,
     new: u64,
     n: u64,
-    between: u8,
+    number: u8,
+    holds: bool,
 ) -> Counted
     requires { ⌜ Moves sketch after (windows old new n) ⌝ }
-    ensures { λ r. ⌜ r .verdict ≡ itemVerdict sketch (now (key .entry)) (now (grid .entry)) after (andThen (numbered between)) ⌝ }
+    ensures { λ r. ⌜ r .verdict ≡ itemVerdict sketch (now (key .entry)) (now (grid .entry)) after (refuse number holds) ⌝ }
     ensures { λ r. ⌜ passOf (now (grid .exit)) (r .passed) ≡ itemCounted (r .verdict) sketch (now (key .entry)) (windows old new n) (now (grid .entry)) ⌝ }
 {
     let rounding = sketch.rounding;
-    let verdict = judge::item(sketch, &key[..], &grid[..], after, new != old, between);
+    let verdict = judge::item(
+        sketch,
+        &key[..],
+        &grid[..],
+        after,
+        new != old,
+        number,
+        holds,
+    );
     if !verdict.accepted() {
         return outcome(verdict, worker::passed(rounding.state, 0));
     }

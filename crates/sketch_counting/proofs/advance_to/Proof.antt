@@ -18,9 +18,6 @@ sub-window-requires-2 c κs = search needs
 is-count-requires : tie.Need-is-count-requires
 is-count-requires c κs = search needs
 
-kind-requires : tie.Need-kind-requires
-kind-requires c κs = search needs
-
 movement-requires : tie.Need-movement-requires
 movement-requires c κs = search (crosses-told, needs)
 
@@ -46,15 +43,7 @@ same-length-2 : tie.Need-same-length-2
 same-length-2 c = search needs
 
 returns-2 : tie.Need-returns-2
-returns-2 c =
-    let stays = c .before .before in
-    let passed = stays .before in
-    let judged = passed .before .before in
-    let told = judged .before .before in
-    let after = told .before .before in
-    advance-stays _ _ _ _ _ _ _ _ _ _ _ _ (c .went-on .ensures) (c .before .passed .ensures) (judged .movement .ensures)
-    (passed .before .accepted .ensures) (passed .if1 .left) (told .kind .ensures) (told .before .is-count .ensures)
-    (after .before .before .advanced .ensures) (after .before .sub-window .ensures) (after .sub-window2 .ensures) (stays .if2 .taken)
+returns-2 c = search (advance-stays, needs)
 
 sub-begun : tie.Need-sub-begun
 sub-begun c = search needs
@@ -63,17 +52,7 @@ mul-cells : tie.Need-mul-cells
 mul-cells c = record { fits = search (move-fit, needs) }
 
 cross-cells-requires : tie.Need-cross-cells-requires
-cross-cells-requires c κs =
-    let cells = c .before .before in
-    let rose = cells .before in
-    let passed = rose .before in
-    let judged = passed .before .before in
-    let told = judged .before .before in
-    let after = told .before .before in
-    let begun = after .before .before in
-    let known = begun .before .before in
-    move-sound (known .before .args .sketch) _ _ (told .kind .result) _ _ (judged .movement .ensures) (passed .before .accepted .ensures)
-    (passed .if1 .left) _ _ (after .sub-window2 .ensures) (after .before .sub-window .ensures) (rose .if2 .left)
+cross-cells-requires c κs = (search (move-sound, needs), search needs)
 
 went-on-requires-2 : tie.Need-went-on-requires-2
 went-on-requires-2 c κs = search needs
@@ -89,11 +68,11 @@ returns-3 c =
     let rose = cells .before .before in
     let passed = rose .before in
     let judged = passed .before .before in
-    let told = judged .before .before in
-    let after = told .before .before in
-    advance-crossed _ _ _ _ _ _ _ _ _ _ _ _ _ (c .went-on2 .ensures) (crossed .cross-cells .ensures .0) (judged .movement .ensures)
-    (passed .before .accepted .ensures) (passed .if1 .left) (told .kind .ensures) (told .before .is-count .ensures)
-    (after .before .before .advanced .ensures) (after .before .sub-window .ensures) (after .sub-window2 .ensures)
+    let known = judged .before .before in
+    let after = known .before in
+    advance-crossed _ _ _ _ _ _ _ _ _ _ _ _ (c .went-on2 .ensures) (crossed .cross-cells .ensures .0) (judged .movement .ensures)
+    (passed .before .accepted .ensures) (passed .if1 .left) (known .is-count .ensures) (after .before .before .advanced .ensures)
+    (after .before .sub-window .ensures) (after .sub-window2 .ensures)
 
 pub advance-to-spec : {M : Type 1} → statement M
 advance-to-spec =
@@ -103,7 +82,6 @@ advance-to-spec =
     sub-window-requires
     sub-window-requires-2
     is-count-requires
-    kind-requires
     movement-requires
     accepted-requires
     undrawn-requires
