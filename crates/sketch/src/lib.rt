@@ -1,7 +1,8 @@
 // Document 01, "Sketch and grid" (microscope.rs, vector3d.rs): a grid of cells behind a clock.
 //
 // The grid is lent by the caller: rows * cols cells of `depth` bytes, by row, then column. A key is lent too: one column
-// for each row.
+// for each row. Here stand what a call takes and gives, and the definitions; crates sketch_start, sketch_counting,
+// sketch_reading, sketch_merging and sketch_queries have the calls.
 use cell::MicroParams;
 use clock::SubWindowClock;
 use refusal::Verdict;
