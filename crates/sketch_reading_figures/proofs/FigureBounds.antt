@@ -17,7 +17,7 @@ use Rattle.sketch.specs.Figures.{itemsIn, keyCell, rowItems, leastIn, leastBack
 use Rattle.sketch.specs.Workers.{Readable, rowUnit}
 use Rattle.sketch.proofs.AddressLaws.{product-le}
 use Rattle.sketch.proofs.KeyCellLaws.{row-unit-le, row-shutter}
-use Rattle.sketch_reading_figures.proofs.FigureLoops.{most}
+use Rattle.sketch_reading_rows.proofs.RowLoops.{most}
 
 choice-le : (x : Bool) (a m : ℕ) → a ≤ m → cond x a 0 ≤ m
 choice-le true a m h = h

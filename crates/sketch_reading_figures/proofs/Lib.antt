@@ -1,4 +1,3 @@
-pub mod FigureCases
 pub mod FigureLoops
 pub mod FigureBounds
 pub mod EstimateCases

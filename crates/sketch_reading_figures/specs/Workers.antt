@@ -1,19 +1,12 @@
 -- What the workers rely on. The public calls have judged it; no public contract cites this file.
-use Prim.Native.Nat.{ℕ, _+_, _<_}
-use mathlib.Core.Path.{_≡_}
+use Prim.Native.Nat.{ℕ, _+_}
 use mathlib.Core.List.{List}
 use lib.Ieee.{Float, binary64, add, mul}
-use lib.ListN.{getD}
 use Rattle.laws.specs.Figure.{figure}
 use Rattle.sketch.specs.declared.MicroCm.{MicroCm}
 use Rattle.sketch.specs.Figures.{overOf, underOf, oneReading}
-use Rattle.sketch.specs.Workers.{rowUnit}
 use Rattle.sketch_reading_figures.specs.declared.worker.Exact.{Exact}
 use Rattle.sketch_reading_figures.specs.declared.worker.Estimated.{Estimated}
-
--- the units of the key's cells, in the first places of a list
-abbrev pub Units : MicroCm → List ℕ → List ℕ → ℕ → List ℕ → Type 0
-Units k g key rows units = (row : ℕ) → row < rows → getD units row 0 ≡ rowUnit k g key row
 
 -- a whole number n beside its f64
 abbrev pub exactly : ℕ → Exact

@@ -1,8 +1,8 @@
 -- `items_in`: each way out is a case of `itemsIn`, and a byte times a unit of four bytes is far below 2 ^ 64. Assumes nothing.
-use Rattle.sketch_reading_figures.proofs.FigureCases.{slot-inside, items-fits, present-fits, present-le, past-le, items-past, items-present}
+use Rattle.sketch_reading_rows.proofs.RowCases.{slot-inside, items-fits, present-fits, present-le, past-le, items-past, items-present}
 use borrow.Author.Needs.{needs}
-use Rattle.sketch_reading_figures.proofs.worker.items_in.Statement.{statement}
-use Rattle.sketch_reading_figures.proofs.worker.items_in.Tie as tie
+use Rattle.sketch_reading_rows.proofs.worker.items_in.Statement.{statement}
+use Rattle.sketch_reading_rows.proofs.worker.items_in.Tie as tie
 
 slot-requires : tie.Need-slot-requires
 slot-requires c κs = search needs

@@ -1,9 +1,9 @@
 -- `least_in`: the least of the rows before this one. Assumes nothing.
-use Rattle.sketch_reading_figures.proofs.FigureLoops.{units-at, Leasting, leasting-begin, leasting-on, leasting-end}
+use Rattle.sketch_reading_rows.proofs.RowLoops.{units-at, Leasting, leasting-begin, leasting-on, leasting-end}
 use Prim.Native.Nat.{_-_}
 use borrow.Author.Needs.{needs}
-use Rattle.sketch_reading_figures.proofs.worker.least_in.Statement.{statement}
-use Rattle.sketch_reading_figures.proofs.worker.least_in.Tie as tie
+use Rattle.sketch_reading_rows.proofs.worker.least_in.Statement.{statement}
+use Rattle.sketch_reading_rows.proofs.worker.least_in.Tie as tie
 
 abbrev Inv-loop : tie.InvT-loop
 Inv-loop sketch grid key units n j rows least₀ row₀ least row = Leasting sketch grid key j least row

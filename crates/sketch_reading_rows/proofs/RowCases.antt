@@ -1,4 +1,4 @@
--- The ways through the figures' loops, in the form in which the code comes to them. Assumes nothing.
+-- The ways through one cell's items, in the form in which the code comes to them. Assumes nothing.
 use Prim.Native.Nat.{ℕ, _+_, _-_, _*_, _^_, _≤_, _<_}
 use mathlib.Core.Path.{_≡_}
 use mathlib.Core.List.{List}
@@ -10,7 +10,6 @@ use Rattle.cell.specs.Cell.{pixelsOf, depthOf, slotOf, shutterOf, unitOf}
 use Rattle.sketch.specs.Figures.{itemsIn}
 use Rattle.sketch.proofs.AddressLaws.{product-le}
 
--- ONE CELL
 pub slot-inside : (t j slot : ℕ) (b : List ℕ) → slot ≡ slotOf t j → length b ≡ depthOf t → slot < length b
 slot-inside t j slot b e l =
     let low : slotOf t j < pixelsOf t = mod-lt j (omega arith) in

@@ -1,8 +1,8 @@
 -- `row_items`: the part that is lent is the key's cell in that row. Assumes nothing.
 use Rattle.sketch.proofs.KeyCellLaws.{lent-room, lent-unit, unit-low, lent-shutter, items-are}
 use borrow.Author.Needs.{needs}
-use Rattle.sketch_reading_figures.proofs.worker.row_items.Statement.{statement}
-use Rattle.sketch_reading_figures.proofs.worker.row_items.Tie as tie
+use Rattle.sketch_reading_rows.proofs.worker.row_items.Statement.{statement}
+use Rattle.sketch_reading_rows.proofs.worker.row_items.Tie as tie
 
 key-cell-requires : tie.Need-key-cell-requires
 key-cell-requires c κs = search needs

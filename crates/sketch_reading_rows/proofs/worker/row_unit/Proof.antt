@@ -1,8 +1,8 @@
 -- `row_unit`: the part that is lent is the key's cell, whose zoom was judged. Assumes nothing.
 use Rattle.sketch.proofs.KeyCellLaws.{lent-power, power-is}
 use borrow.Author.Needs.{needs}
-use Rattle.sketch_reading_figures.proofs.worker.row_unit.Statement.{statement}
-use Rattle.sketch_reading_figures.proofs.worker.row_unit.Tie as tie
+use Rattle.sketch_reading_rows.proofs.worker.row_unit.Statement.{statement}
+use Rattle.sketch_reading_rows.proofs.worker.row_unit.Tie as tie
 
 key-cell-requires : tie.Need-key-cell-requires
 key-cell-requires c κs = search needs

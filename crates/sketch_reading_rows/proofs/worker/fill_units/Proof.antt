@@ -1,9 +1,9 @@
 -- `fill_units`: the units of the rows before this one are found. Assumes nothing.
-use Rattle.sketch_reading_figures.proofs.FigureLoops.{Filling, filling-begin, filling-on, filling-end}
+use Rattle.sketch_reading_rows.proofs.RowLoops.{Filling, filling-begin, filling-on, filling-end}
 use Prim.Native.Nat.{_-_}
 use borrow.Author.Needs.{needs}
-use Rattle.sketch_reading_figures.proofs.worker.fill_units.Statement.{statement}
-use Rattle.sketch_reading_figures.proofs.worker.fill_units.Tie as tie
+use Rattle.sketch_reading_rows.proofs.worker.fill_units.Statement.{statement}
+use Rattle.sketch_reading_rows.proofs.worker.fill_units.Tie as tie
 
 abbrev Inv-loop : tie.InvT-loop
 Inv-loop sketch grid key units₀ rows row₀ units row = Filling sketch grid key units row
