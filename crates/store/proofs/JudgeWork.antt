@@ -19,11 +19,12 @@ use Rattle.sketch.specs.declared.MicroCm.{MicroCm}
 use Rattle.sketch.specs.Sketch.{cellsOf, gridBytes, cellOf, allCells}
 use Rattle.sketch.specs.Refusals.{refuseUnsound, numbersVerdict}
 use Rattle.sketch.proofs.JudgeLoops.{AllLeft, all-begin, all-found, all-on, all-end}
-use Rattle.store_blocks.specs.Blocks.{blocksPass, allZero, carried}
+use Rattle.store_bytes.specs.Fill.{allZero}
+use Rattle.store_blocks.specs.Blocks.{blocksPass, carried}
 use Rattle.store.specs.Store.{storeLength}
 use Rattle.store.specs.Refusals.{refuseBlocks, gridIn, gridVerdict}
 use Rattle.store.specs.Workers.{Sized, Stored}
-use Rattle.store_blocks.proofs.FillLaws.{part-take, part-part}
+use Rattle.store_bytes.proofs.FillLaws.{part-take, part-part}
 use Rattle.store.proofs.SettingsLaws.{settings-good, cells-limit, grid-limit}
 
 -- THE GRID'S BYTES

@@ -11,7 +11,8 @@ use Rattle.refusal.proofs.VerdictLaws.{not-refused}
 use Rattle.sketch.specs.declared.MicroCm.{MicroCm}
 use Rattle.sketch.specs.Sketch.{gridBytes, allCells}
 use Rattle.sketch.specs.Refusals.{refuseUnsound, numbersVerdict}
-use Rattle.store_blocks.specs.Blocks.{blocksPass, allZero, carried}
+use Rattle.store_bytes.specs.Fill.{allZero}
+use Rattle.store_blocks.specs.Blocks.{blocksPass, carried}
 use Rattle.store_header.specs.Header.{sketchIn}
 use Rattle.store_header.specs.Refusals.{wrongForm, headerVerdict}
 use Rattle.store.specs.Store.{storeLength}

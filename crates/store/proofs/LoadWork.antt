@@ -22,7 +22,7 @@ use Rattle.store_header.specs.declared.Header.the-variants.{Sketch, Refused}
 use Rattle.store_blocks.specs.Blocks.{carried}
 use Rattle.store_header.specs.Refusals.{wrongForm, headerVerdict, headerIn, headerNumber}
 use Rattle.store.specs.Refusals.{refuseBlocks, headerPayload, gridVerdict, loadVerdict, loadCall}
-use Rattle.store_blocks.proofs.FillLaws.{part-take}
+use Rattle.store_bytes.proofs.FillLaws.{part-take}
 use Rattle.store_header.proofs.HeaderLaws.{neither}
 use Rattle.store_header.proofs.AnswerLaws.{header-refused, sketch-said}
 use Rattle.refusal.proofs.GateLaws.{gate-open, gate-shut}

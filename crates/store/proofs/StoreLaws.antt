@@ -9,7 +9,8 @@ use Rattle.laws.specs.Bytes.{bytesOf}
 use Rattle.laws.proofs.ByteLaws.{bytes-small}
 use Rattle.clock.specs.Clock.{lengthOf, readingOf}
 use Rattle.sketch.specs.declared.MicroCm.{MicroCm}
-use Rattle.store_blocks.specs.Blocks.{filled, blockOf, blocksFrom, blocksPass, carried}
+use Rattle.store_bytes.specs.Fill.{filled}
+use Rattle.store_blocks.specs.Blocks.{blockOf, blocksFrom, blocksPass, carried}
 use Rattle.store_header.specs.Header.{kindOf, epochOf, headerWith}
 use Rattle.store_header.specs.Workers.{headerOf}
 use Rattle.store.specs.Store.{storeLength, storeOf, storeWith}

@@ -15,12 +15,13 @@ use Rattle.refusal.proofs.VerdictLaws.{not-refused}
 use Rattle.sketch.specs.declared.MicroCm.{MicroCm}
 use Rattle.sketch.specs.Sketch.{gridBytes, allCells}
 use Rattle.sketch.specs.Refusals.{refuseSketch, refuseUnsound, noSketch, sketchOutcome, undrawn, numbersVerdict}
-use Rattle.store_blocks.specs.Blocks.{filled, blockOf, blocksFrom, blockPasses, blocksPass, payloadsOf, carried}
+use Rattle.store_bytes.specs.Fill.{filled}
+use Rattle.store_blocks.specs.Blocks.{blockOf, blocksFrom, blockPasses, blocksPass, payloadsOf, carried}
 use Rattle.store_header.specs.Workers.{headerOf}
 use Rattle.store.specs.Store.{blocksFor, storeOf, storeWith}
 use Rattle.store.specs.Workers.{gridBlocks}
 use Rattle.store.specs.Refusals.{headerPayload, refuseLength, loadVerdict, loadCall, saveVerdict, saveOutcome, saveCall}
-use Rattle.store_blocks.proofs.FillLaws.{filled-full, behind-zero, cut-alike}
+use Rattle.store_bytes.proofs.FillLaws.{filled-full, behind-zero, cut-alike}
 use Rattle.laws.proofs.SmallLaws.{Small, small-take, small-drop}
 use Rattle.store_blocks.proofs.BlockLaws.{block-same, block-back}
 use Rattle.store_blocks.proofs.ChainLaws.{pass-suc, blocks-changed, blocks-back, from-alike}

@@ -12,7 +12,8 @@ use Rattle.sketch.specs.declared.MicroCm.{MicroCm}
 use Rattle.sketch.specs.Sketch.{gridBytes, allCells}
 use Rattle.sketch.specs.Refusals.{refuseGrid, refuseSketch, refuseUnsound, SketchOutcome, sketchCall, world, noSketch, numbersVerdict}
 use Rattle.store.specs.declared.LengthAnswer.{LengthAnswer}
-use Rattle.store_blocks.specs.Blocks.{blockBytes, blocksPass, payloadOf, allZero, carried}
+use Rattle.store_bytes.specs.Fill.{allZero}
+use Rattle.store_blocks.specs.Blocks.{blockBytes, blocksPass, payloadOf, carried}
 use Rattle.store_header.specs.Header.{sketchIn}
 use Rattle.store_header.specs.Refusals.{headerVerdict}
 use Rattle.store.specs.Store.{storeBytes, storeLength, storeOf}

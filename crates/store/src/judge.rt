@@ -1,8 +1,8 @@
 // What a save and a load test before anything is written, each in its own order.
 use refusal::Verdict;
 use sketch::MicroCm;
-use store_blocks::bytes;
 use store_blocks::chain;
+use store_bytes::bytes;
 ghost use mathlib.Core.Path.{_≡_};
 ghost use Prim.Native.Nat.{_+_, _-_, _*_, _/_, _≤_};
 ghost use lib.ListN.{length};

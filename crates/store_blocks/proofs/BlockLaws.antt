@@ -12,9 +12,10 @@ use native.Mathlib.Decide.{decLt}
 use borrow.Author.Tests.{eqb-true, eq-eqb, ne-eqb}
 use Rattle.laws.specs.Bytes.{numberOf, bytesOf}
 use Rattle.laws.proofs.ByteLaws.{bytes-length, bytes-small, number-bytes-small, bytes-number}
-use Rattle.store_blocks.specs.Blocks.{weighedFrom, filled, bodyOf, blockOf, blockPasses, payloadOf}
+use Rattle.store_bytes.specs.Fill.{filled}
+use Rattle.store_blocks.specs.Blocks.{weighedFrom, bodyOf, blockOf, blockPasses, payloadOf}
 use Rattle.laws.proofs.SmallLaws.{Small, small-append, small-take, small-drop}
-use Rattle.store_blocks.proofs.FillLaws.{filled-length, filled-small, filled-full, drop-at-behind, drop-set-behind}
+use Rattle.store_bytes.proofs.FillLaws.{filled-length, filled-small, filled-full, drop-at-behind, drop-set-behind}
 
 -- THE SUM
 pub weighed-cons : (i x : ℕ) (xs : List ℕ) → weighedFrom i (x ∷ xs) ≡ x * (i + 1) + weighedFrom (suc i) xs

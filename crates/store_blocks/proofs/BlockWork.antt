@@ -12,8 +12,9 @@ use Rattle.laws.specs.Bytes.{numberOf, bytesOf}
 use Rattle.laws.specs.Parts.{part, splice}
 use Rattle.laws.proofs.ByteLaws.{bytes-length}
 use Rattle.laws.proofs.PartLaws.{part-length, splice-length, splice-taken}
-use Rattle.store_blocks.specs.Blocks.{weighedFrom, filled, bodyOf, blockOf, blockPasses}
-use Rattle.store_blocks.proofs.FillLaws.{filled-length}
+use Rattle.store_bytes.specs.Fill.{filled}
+use Rattle.store_blocks.specs.Blocks.{weighedFrom, bodyOf, blockOf, blockPasses}
+use Rattle.store_bytes.proofs.FillLaws.{filled-length}
 
 -- at lengths that are variables, so that nothing unfolds
 module _ (p q r : ℕ) (b u : List ℕ) (whole : length b ≡ p + q + r) (eu : length u ≡ p) where

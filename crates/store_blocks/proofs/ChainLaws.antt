@@ -8,10 +8,11 @@ use lib.Seq.{take-at, drop-at, length-take-le, take-set-le, take-set-lt, getD-ta
 use native.Mathlib.Omega.{arith}
 use native.Mathlib.Decide.{decLt}
 use Rattle.laws.proofs.PartLaws.{part-length}
-use Rattle.store_blocks.specs.Blocks.{filled, blockOf, blocksFrom, blockPasses, blocksPass, payloadOf, payloadsOf}
-use Rattle.store_blocks.proofs.FillLaws.{Alike, alike-take, alike-drop}
+use Rattle.store_bytes.specs.Fill.{filled}
+use Rattle.store_blocks.specs.Blocks.{blockOf, blocksFrom, blockPasses, blocksPass, payloadOf, payloadsOf}
+use Rattle.store_bytes.proofs.FillLaws.{Alike, alike-take, alike-drop}
 use Rattle.laws.proofs.SmallLaws.{Small, small-take, small-drop}
-use Rattle.store_blocks.proofs.FillLaws.{filled-alike, filled-add, drop-at-behind, drop-set-behind}
+use Rattle.store_bytes.proofs.FillLaws.{filled-alike, filled-add, drop-at-behind, drop-set-behind}
 use Rattle.store_blocks.proofs.BlockLaws.{block-length, block-same, block-payload, block-passes, block-changed, block-back}
 
 pub from-suc : (number count : ℕ) (l : List ℕ) → blocksFrom number (suc count) l ≡ blockOf number (take 504 l) ++ blocksFrom (suc number) count (drop 504 l)

@@ -14,11 +14,12 @@ use borrow.Author.Tests.{not-true, not-false}
 use Rattle.laws.specs.Parts.{part}
 use Rattle.laws.proofs.PartLaws.{part-length, part-at, splice-length, splice-taken}
 use Rattle.store_blocks.specs.Workers.{InBlock}
-use Rattle.store_blocks.specs.Blocks.{filled, blockOf, blocksFrom, blockPasses, blocksPass, payloadOf, payloadsOf, allZero, carried}
-use Rattle.store_blocks.proofs.FillLaws.{part-part, filled-is, filled-length, filled-at}
+use Rattle.store_bytes.specs.Fill.{filled, allZero}
+use Rattle.store_blocks.specs.Blocks.{blockOf, blocksFrom, blockPasses, blocksPass, payloadOf, payloadsOf, carried}
+use Rattle.store_bytes.proofs.FillLaws.{part-part, filled-is, filled-length, filled-at}
 use Rattle.store_blocks.proofs.BlockLaws.{block-length, block-same}
 use Rattle.store_blocks.proofs.ChainLaws.{from-zero, from-suc, pass-zero, pass-suc, payloads-suc, payload-length, payloads-length}
-use Rattle.store_blocks.proofs.ByteLoops.{Writing, writing-begin}
+use Rattle.store_bytes.proofs.ByteLoops.{Writing, writing-begin}
 
 -- WRITING BLOCKS
 pub record Filling (n : ℕ) (g b₀ b : List ℕ) (left number start at : ℕ) : Type 0 where

@@ -1,6 +1,5 @@
-pub mod FillLaws
 pub mod BlockLaws
 pub mod ChainLaws
-pub mod ByteLoops
+pub mod BlockLoops
 pub mod BlockWork
 pub mod ChainLoops

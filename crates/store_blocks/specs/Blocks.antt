@@ -3,9 +3,10 @@ use Prim.Native.Nat.{ℕ, zero, suc, _+_, _-_, _*_, _/_}
 use mathlib.Core.Bool.{Bool, true, _&&_}
 use mathlib.Core.List.{List, [], _∷_, _++_}
 use lib.Dec.{eqb}
-use lib.ListN.{length, take, drop, replicate}
+use lib.ListN.{length, take, drop}
 use Rattle.laws.specs.Bytes.{numberOf, bytesOf}
 use Rattle.laws.specs.Parts.{part}
+use Rattle.store_bytes.specs.Fill.{filled}
 
 -- THE BLOCK: 512 bytes, of which 504 are payload
 abbrev pub blockBytes : ℕ
@@ -22,10 +23,6 @@ bodyBytes = 508
 unfoldable pub weighedFrom : ℕ → List ℕ → ℕ
 weighedFrom i [] = 0
 weighedFrom i (x ∷ xs) = x * (i + 1) + weighedFrom (suc i) xs
-
--- a list cut off or zero-filled to n bytes
-abbrev pub filled : ℕ → List ℕ → List ℕ
-filled n l = take n (l ++ replicate n 0)
 
 -- 0 to 3 its number, 4 to 507 the payload
 abbrev pub bodyOf : ℕ → List ℕ → List ℕ
@@ -62,8 +59,3 @@ payloadsOf (suc count) l = payloadOf (take blockBytes l) ++ payloadsOf count (dr
 -- what the blocks from 1 on carry: the grid, and the fill behind it
 abbrev pub carried : List ℕ → List ℕ
 carried store = payloadsOf (length store / blockBytes - 1) (drop blockBytes store)
-
--- nothing but zeros, as the fill is
-unfoldable pub allZero : List ℕ → Bool
-allZero [] = true
-allZero (x ∷ xs) = eqb x 0 && allZero xs

@@ -1,6 +1,6 @@
 // The block of 512 bytes: its number, 504 bytes of payload, and a sum that gives each byte a weight of its own, so that
 // no byte can change alone unseen.
-use crate::bytes;
+use store_bytes::bytes;
 ghost use mathlib.Core.Path.{_≡_};
 ghost use Prim.Native.Nat.{_+_, _*_, _<_, _≤_};
 ghost use lib.ListN.{length};

@@ -1,12 +1,13 @@
 // Blocks one behind another: written, judged, and read as if their payloads were one list.
 use crate::block;
-use crate::bytes;
+use store_bytes::bytes;
 ghost use mathlib.Core.Path.{_≡_};
 ghost use Prim.Native.Nat.{_+_, _-_, _*_, _/_, _<_, _≤_};
 ghost use lib.ListN.{length, drop};
 ghost use Rattle.laws.specs.Parts.{part};
+ghost use Rattle.store_bytes.specs.Fill.{allZero};
 ghost use Rattle.store_blocks.specs.Workers.{InBlock};
-ghost use Rattle.store_blocks.specs.Blocks.{blocksFrom, blocksPass, allZero, carried};
+ghost use Rattle.store_blocks.specs.Blocks.{blocksFrom, blocksPass, carried};
 
 // The grid in blocks from number 1 on. A block takes what it has room for of all that is left, and fills up with zeros.
 pub fn write_blocks(blocks: &mut [u8], grid: &[u8])

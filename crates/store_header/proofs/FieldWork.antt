@@ -17,7 +17,7 @@ use Rattle.clock.specs.declared.SubWindowClock.{SubWindowClock}
 use Rattle.clock.specs.declared.SubWindowClock.the-variants.{CountBased, TimeBased}
 use Rattle.clock.specs.Clock.{lengthOf, readingOf}
 use Rattle.sketch.specs.declared.MicroCm.{MicroCm}
-use Rattle.store_blocks.specs.Blocks.{allZero}
+use Rattle.store_bytes.specs.Fill.{allZero}
 use Rattle.store_header.specs.Header.{kindOf, epochOf, fieldOf, clockIn, sketchIn, headerWith}
 use Rattle.store_header.specs.Refusals.{wrongForm, otherForm}
 use Rattle.store_header.specs.Workers.{Put, headerOf}

@@ -16,11 +16,11 @@ use Rattle.clock.specs.declared.SubWindowClock.{SubWindowClock}
 use Rattle.clock.specs.declared.SubWindowClock.the-variants.{CountBased, TimeBased}
 use Rattle.clock.specs.Clock.{lengthOf, readingOf}
 use Rattle.sketch.specs.declared.MicroCm.{MicroCm}
-use Rattle.store_blocks.specs.Blocks.{filled, allZero}
+use Rattle.store_bytes.specs.Fill.{filled, allZero}
 use Rattle.store_header.specs.Header.{kindOf, epochOf, fieldOf, clockIn, sketchIn, headerWith}
 use Rattle.store_header.specs.Workers.{headerOf}
 use Rattle.store_header.specs.Refusals.{wrongForm, otherForm}
-use Rattle.store_blocks.proofs.FillLaws.{filled-is, cut-alike}
+use Rattle.store_bytes.proofs.FillLaws.{filled-is, cut-alike}
 use Rattle.laws.proofs.SmallLaws.{Small, small-take, small-drop}
 
 -- a sketch whose numbers fit the fields

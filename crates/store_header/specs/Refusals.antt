@@ -10,7 +10,7 @@ use Rattle.refusal.specs.Refusals.{numberOf, whenAccepted}
 use Rattle.refusal.specs.Causes.{Cause, cause, refuseBy}
 use Rattle.sketch.specs.declared.MicroCm.{MicroCm}
 use Rattle.sketch.specs.Refusals.{numbersVerdict}
-use Rattle.store_blocks.specs.Blocks.{allZero}
+use Rattle.store_bytes.specs.Fill.{allZero}
 use Rattle.store_header.specs.declared.Header.{Header}
 use Rattle.store_header.specs.declared.Header.the-variants.{Sketch, Refused}
 use Rattle.store_header.specs.Header.{formNumber, fieldOf, sketchIn}

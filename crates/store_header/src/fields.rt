@@ -4,7 +4,7 @@ use cell::MicroParams;
 use clock::SubWindowClock;
 use rounding::Rounding;
 use sketch::MicroCm;
-use store_blocks::bytes;
+use store_bytes::bytes;
 ghost use mathlib.Core.Path.{_≡_};
 ghost use Prim.Native.Nat.{_+_, _^_, _<_, _≤_};
 ghost use lib.ListN.{length, take, drop};

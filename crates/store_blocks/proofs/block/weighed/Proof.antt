@@ -1,5 +1,5 @@
 -- `blocks::block::weighed` meets its contract. The sum so far, and the weighed rest, make the whole (`Weighing`); the measure is what is left.
-use Rattle.store_blocks.proofs.ByteLoops.{Weighing, weighing-begin, weighing-on, weighing-end, product-fits, sum-fits}
+use Rattle.store_blocks.proofs.BlockLoops.{Weighing, weighing-begin, weighing-on, weighing-end, product-fits, sum-fits}
 use Prim.Native.Nat.{_-_}
 use lib.ListN.{length}
 use borrow.Author.Needs.{needs}

@@ -3,7 +3,7 @@ ghost use mathlib.Core.Path.{_≡_};
 ghost use Prim.Native.Nat.{_%_, _^_, _<_, _≤_};
 ghost use lib.ListN.{length, take, replicate};
 ghost use Rattle.laws.specs.Bytes.{numberOf, bytesOf};
-ghost use Rattle.store_blocks.specs.Blocks.{filled, allZero};
+ghost use Rattle.store_bytes.specs.Fill.{filled, allZero};
 
 pub fn wide(x: u8) -> u64
     ensures { λ r. ⌜ r ≡ x ⌝ }

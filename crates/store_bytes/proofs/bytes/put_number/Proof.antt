@@ -1,12 +1,12 @@
--- `blocks::bytes::put_number` meets its contract. What stands before i, and the bytes of what is left of the number, make its
+-- `store_bytes::bytes::put_number` meets its contract. What stands before i, and the bytes of what is left of the number, make its
 -- bytes (`Putting`); the measure is what is left of the room.
-use Rattle.store_blocks.proofs.ByteLoops.{Putting, putting-begin, putting-on, putting-end}
+use Rattle.store_bytes.proofs.ByteLoops.{Putting, putting-begin, putting-on, putting-end}
 use Prim.Native.Nat.{_-_}
 use lib.ListN.{length, length-set}
 use borrow.Author.Needs.{needs}
 use native.Mathlib.Omega.{arith}
-use Rattle.store_blocks.proofs.bytes.put_number.Statement.{statement}
-use Rattle.store_blocks.proofs.bytes.put_number.Tie as tie
+use Rattle.store_bytes.proofs.bytes.put_number.Statement.{statement}
+use Rattle.store_bytes.proofs.bytes.put_number.Tie as tie
 
 abbrev Inv-loop : tie.InvT-loop
 Inv-loop b₀ n rest₀ i₀ b rest i = Putting n b₀ b rest i

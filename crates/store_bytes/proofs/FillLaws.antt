@@ -13,7 +13,7 @@ use borrow.Author.Tests.{eqb-true, eq-eqb}
 use Rattle.laws.specs.Parts.{part}
 use Rattle.laws.proofs.PartLaws.{part-at}
 use Rattle.laws.proofs.SmallLaws.{Small, small-take}
-use Rattle.store_blocks.specs.Blocks.{filled, allZero}
+use Rattle.store_bytes.specs.Fill.{filled, allZero}
 
 -- the same up to zeros behind them
 abbrev pub Alike : List ℕ → List ℕ → Type 0

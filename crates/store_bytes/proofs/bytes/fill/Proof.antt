@@ -1,8 +1,8 @@
--- `blocks::bytes::fill` meets its contract. A longer list is cut off, and behind a shorter one zeros fill the room.
-use Rattle.store_blocks.proofs.FillLaws.{filled-cut, front-room, front-enough, filled-behind}
+-- `store_bytes::bytes::fill` meets its contract. A longer list is cut off, and behind a shorter one zeros fill the room.
+use Rattle.store_bytes.proofs.FillLaws.{filled-cut, front-room, front-enough, filled-behind}
 use borrow.Author.Needs.{needs}
-use Rattle.store_blocks.proofs.bytes.fill.Statement.{statement}
-use Rattle.store_blocks.proofs.bytes.fill.Tie as tie
+use Rattle.store_bytes.proofs.bytes.fill.Statement.{statement}
+use Rattle.store_bytes.proofs.bytes.fill.Tie as tie
 
 copy-requires : tie.Need-copy-requires
 copy-requires c κs = search needs

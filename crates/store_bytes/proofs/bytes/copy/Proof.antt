@@ -1,11 +1,11 @@
--- `blocks::bytes::copy` meets its contract. So far every byte is the one that `from` has there (`Writing`); the measure is what is left of the room.
-use Rattle.store_blocks.proofs.ByteLoops.{Writing, writing-end, copy-begin, copy-inside, copy-on}
+-- `store_bytes::bytes::copy` meets its contract. So far every byte is the one that `from` has there (`Writing`); the measure is what is left of the room.
+use Rattle.store_bytes.proofs.ByteLoops.{Writing, writing-end, copy-begin, copy-inside, copy-on}
 use Prim.Native.Nat.{_-_}
 use lib.ListN.{length, take, length-set}
 use borrow.Author.Needs.{needs}
 use native.Mathlib.Omega.{arith}
-use Rattle.store_blocks.proofs.bytes.copy.Statement.{statement}
-use Rattle.store_blocks.proofs.bytes.copy.Tie as tie
+use Rattle.store_bytes.proofs.bytes.copy.Statement.{statement}
+use Rattle.store_bytes.proofs.bytes.copy.Tie as tie
 
 abbrev Inv-loop : tie.InvT-loop
 Inv-loop b₀ from i₀ b i = Writing (take (length b₀) from) b₀ b i

@@ -1,8 +1,8 @@
--- `blocks::bytes::number` meets its contract. So far the number is that of the bytes from i on (`Reading`); the measure is i.
-use Rattle.store_blocks.proofs.ByteLoops.{Reading, reading-begin, reading-on, reading-end, reading-few, raised-fits, read-fits}
+-- `store_bytes::bytes::number` meets its contract. So far the number is that of the bytes from i on (`Reading`); the measure is i.
+use Rattle.store_bytes.proofs.ByteLoops.{Reading, reading-begin, reading-on, reading-end, reading-few, raised-fits, read-fits}
 use borrow.Author.Needs.{needs}
-use Rattle.store_blocks.proofs.bytes.number.Statement.{statement}
-use Rattle.store_blocks.proofs.bytes.number.Tie as tie
+use Rattle.store_bytes.proofs.bytes.number.Statement.{statement}
+use Rattle.store_bytes.proofs.bytes.number.Tie as tie
 
 abbrev Inv-loop : tie.InvT-loop
 Inv-loop b n₀ i₀ n i = Reading b n i

@@ -1,11 +1,11 @@
--- `blocks::bytes::clear` meets its contract. So far every byte is 0 (`Writing`); the measure is what is left of the room.
-use Rattle.store_blocks.proofs.ByteLoops.{Writing, writing-end, zeros-begin, zeros-on}
+-- `store_bytes::bytes::clear` meets its contract. So far every byte is 0 (`Writing`); the measure is what is left of the room.
+use Rattle.store_bytes.proofs.ByteLoops.{Writing, writing-end, zeros-begin, zeros-on}
 use Prim.Native.Nat.{_-_}
 use lib.ListN.{length, replicate, length-set}
 use borrow.Author.Needs.{needs}
 use native.Mathlib.Omega.{arith}
-use Rattle.store_blocks.proofs.bytes.clear.Statement.{statement}
-use Rattle.store_blocks.proofs.bytes.clear.Tie as tie
+use Rattle.store_bytes.proofs.bytes.clear.Statement.{statement}
+use Rattle.store_bytes.proofs.bytes.clear.Tie as tie
 
 abbrev Inv-loop : tie.InvT-loop
 Inv-loop b₀ i₀ b i = Writing (replicate (length b₀) 0) b₀ b i

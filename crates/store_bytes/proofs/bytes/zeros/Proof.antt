@@ -1,10 +1,10 @@
--- `blocks::bytes::zeros` meets its contract. So far there are zeros alone, so the rest decides (`Clear`); the measure is what is left.
-use Rattle.store_blocks.proofs.ByteLoops.{Clear, clear-begin, clear-on, clear-not, clear-end}
+-- `store_bytes::bytes::zeros` meets its contract. So far there are zeros alone, so the rest decides (`Clear`); the measure is what is left.
+use Rattle.store_bytes.proofs.ByteLoops.{Clear, clear-begin, clear-on, clear-not, clear-end}
 use Prim.Native.Nat.{_-_}
 use lib.ListN.{length}
 use borrow.Author.Needs.{needs}
-use Rattle.store_blocks.proofs.bytes.zeros.Statement.{statement}
-use Rattle.store_blocks.proofs.bytes.zeros.Tie as tie
+use Rattle.store_bytes.proofs.bytes.zeros.Statement.{statement}
+use Rattle.store_bytes.proofs.bytes.zeros.Tie as tie
 
 abbrev Inv-loop : tie.InvT-loop
 Inv-loop b i₀ i = Clear b i
