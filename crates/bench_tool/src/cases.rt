@@ -59,7 +59,7 @@ pub fn set_clock(line: &[u8], shelf: Shelf) -> Shelf {
     let slot = shelf.get(place);
     let sketch = with_clock(slot.sketch, value);
     let clock = sketch.clock;
-    let now = clock.n();
+    let now = clock_calls::n(clock);
     print::number(b"ok n=", now.n);
     print::text(b"\n");
     shelf.with_sketch(place, sketch)

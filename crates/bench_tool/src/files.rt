@@ -79,7 +79,7 @@ fn load_in(place: usize, size: usize, grids: &mut [u8], store: &[u8]) -> Service
 
 fn tell_loaded(sketch: MicroCm) {
     let clock = sketch.clock;
-    let now = clock.n();
+    let now = clock_calls::n(clock);
     print::number(b"ok rows=", sketch.rows as u64);
     print::number(b" cols=", sketch.cols as u64);
     print::number(b" n=", now.n);

@@ -109,7 +109,7 @@ fn tell(run: Run, times: u64) {
 
 pub fn tell_counted(sketch: MicroCm, draws: u64) {
     let clock = sketch.clock;
-    let now = clock.n();
+    let now = clock_calls::n(clock);
     print::counted(now.n, draws);
 }
 

@@ -117,7 +117,7 @@ fn draw_judged(sketch: MicroCm, row: usize, col: usize, grid: &[u8]) {
         unsound(sketch, row, col, cell);
         return;
     }
-    let now = clock.n();
+    let now = clock_calls::n(clock);
     draw(cell, params, now.n);
 }
 

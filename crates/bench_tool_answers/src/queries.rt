@@ -50,7 +50,7 @@ fn zoom(sketch: MicroCm, grid: &[u8]) {
 fn dump(sketch: MicroCm, grid: &[u8]) {
     let clock = sketch.clock;
     let rounding = sketch.rounding;
-    let now = clock.n();
+    let now = clock_calls::n(clock);
     print::number(b"ok clock=", moment(clock));
     print::number(b" n=", now.n);
     print::hex(b" state=0x", rounding.state);

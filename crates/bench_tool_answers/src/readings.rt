@@ -41,7 +41,7 @@ fn tell_reading(answer: ReadingAnswer) {
 fn covered(sketch: MicroCm) -> u64 {
     let clock = sketch.clock;
     let params = sketch.params;
-    let now = clock.n();
+    let now = clock_calls::n(clock);
     let t = params.t as u64;
     if now.n < t {
         return std::num::wrapping_add_u64(now.n, 1);

@@ -16,10 +16,10 @@ pub fn update(sketch: MicroCm, key: &[u32], grid: &mut [u8]) -> SketchAnswer
     ensures { λ r. ⌜ sketchOutcome r (now (grid .exit)) ≡ updateCall sketch (now (key .entry)) (now (grid .entry)) ⌝ }
 {
     let clock = sketch.clock;
-    let after = clock::worker::ticked(clock);
-    let old = clock::worker::sub_window(clock);
-    let new = clock::worker::next_sub_window(clock, old);
-    let wrong = !clock::worker::is_count(clock);
+    let after = clock_steps::worker::ticked(clock);
+    let old = clock_steps::worker::sub_window(clock);
+    let new = clock_steps::worker::next_sub_window(clock, old);
+    let wrong = !clock_steps::worker::is_count(clock);
     let counted = worker::count(sketch, &key[..], grid, after, old, new, old, 8, wrong);
     answer::counted(sketch, after, counted)
 }
@@ -29,10 +29,10 @@ pub fn update_at(sketch: MicroCm, key: &[u32], timestamp: u64, grid: &mut [u8]) 
     ensures { λ r. ⌜ sketchOutcome r (now (grid .exit)) ≡ updateAtCall sketch (now (key .entry)) timestamp (now (grid .entry)) ⌝ }
 {
     let clock = sketch.clock;
-    let after = clock::worker::advanced(clock, timestamp);
-    let old = clock::worker::sub_window(clock);
-    let new = clock::worker::sub_window(after);
-    let wrong = clock::worker::is_count(clock);
+    let after = clock_steps::worker::advanced(clock, timestamp);
+    let old = clock_steps::worker::sub_window(clock);
+    let new = clock_steps::worker::sub_window(after);
+    let wrong = clock_steps::worker::is_count(clock);
     let counted = worker::count(sketch, &key[..], grid, after, old, new, new, 8, wrong);
     answer::counted(sketch, after, counted)
 }
@@ -43,10 +43,10 @@ pub fn advance_to(sketch: MicroCm, timestamp: u64, grid: &mut [u8]) -> SketchAns
 {
     let clock = sketch.clock;
     let rounding = sketch.rounding;
-    let after = clock::worker::advanced(clock, timestamp);
-    let old = clock::worker::sub_window(clock);
-    let new = clock::worker::sub_window(after);
-    let wrong = clock::worker::is_count(clock);
+    let after = clock_steps::worker::advanced(clock, timestamp);
+    let old = clock_steps::worker::sub_window(clock);
+    let new = clock_steps::worker::sub_window(after);
+    let wrong = clock_steps::worker::is_count(clock);
     let verdict = judge::movement(sketch, &grid[..], after, new != old, 8, wrong);
     if !verdict.accepted() {
         return sketch_judging::answer::undrawn(verdict, sketch);

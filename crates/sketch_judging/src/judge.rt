@@ -65,7 +65,7 @@ pub fn settings(rows: usize, cols: usize, params: MicroParams, clock: SubWindowC
     if !cells.accepted() {
         return cells;
     }
-    let times = clock::worker::judged(clock);
+    let times = clock_steps::worker::judged(clock);
     if !times.accepted() {
         return times;
     }

@@ -49,10 +49,10 @@ fn pair(sketch: MicroCm, other: MicroCm) -> Verdict
     }
     let clock = sketch.clock;
     let others = other.clock;
-    if !clock.same_frame(others) {
+    if !clock_steps::same_frame(clock, others) {
         return Verdict::Refused(11);
     }
-    if clock::worker::sub_window(clock) != clock::worker::sub_window(others) {
+    if clock_steps::worker::sub_window(clock) != clock_steps::worker::sub_window(others) {
         return Verdict::Refused(12);
     }
     Verdict::Accepted

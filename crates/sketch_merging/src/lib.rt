@@ -24,7 +24,7 @@ pub fn merge(sketch: MicroCm, grid: &mut [u8], other: MicroCm, other_grid: &[u8]
     let params = sketch.params;
     let clock = sketch.clock;
     let rounding = sketch.rounding;
-    let n = clock::worker::sub_window(clock);
+    let n = clock_steps::worker::sub_window(clock);
     let passed = pass::merge_each(sketch, grid, other_grid, n, rounding.state);
     SketchAnswer {
         verdict,

@@ -23,7 +23,7 @@ fn misused(sketch: MicroCm, fraction: f64) -> bool
 {
     let params = sketch.params;
     let clock = sketch.clock;
-    if clock::worker::sub_window(clock) < params.t as u64 {
+    if clock_steps::worker::sub_window(clock) < params.t as u64 {
         return false;
     }
     !in_unit(fraction)

@@ -47,7 +47,7 @@ pub fn estimate(sketch: MicroCm, key: &[u32], grid: &[u8]) -> ReadingAnswer
         return turned_back(verdict);
     }
     let clock = sketch.clock;
-    let fraction = clock::worker::fraction(clock);
+    let fraction = clock_steps::worker::fraction(clock);
     told(
         verdict,
         sketch_reading_figures::worker::estimate(sketch, grid, key, fraction),

@@ -108,7 +108,7 @@ fn under_from(sketch: MicroCm, grid: &[u8], key: &[u32], units: &[u64]) -> Exact
 {
     let params = sketch.params;
     let clock = sketch.clock;
-    let n = clock::worker::sub_window(clock);
+    let n = clock_steps::worker::sub_window(clock);
     sum_back(sketch, grid, key, units, n, params.t as u64 - 1)
 }
 
@@ -127,7 +127,7 @@ fn estimate_from(
     let params = sketch.params;
     let clock = sketch.clock;
     let t = params.t as u64;
-    let n = clock::worker::sub_window(clock);
+    let n = clock_steps::worker::sub_window(clock);
     let under = under_from(sketch, grid, key, units);
     if n < t {
         return below_window(under, fraction);

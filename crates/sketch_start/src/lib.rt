@@ -33,7 +33,7 @@ pub fn with_dimensions(
             rows,
             cols,
             params,
-            clock: clock::worker::started(clock),
+            clock: clock_steps::worker::started(clock),
             rounding: Rounding::new(seed),
         },
     )

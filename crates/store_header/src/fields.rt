@@ -84,7 +84,7 @@ fn write_state(out: &mut [u8], sketch: MicroCm)
 {
     let clock = sketch.clock;
     let rounding = sketch.rounding;
-    put_field(out, 0, 8, clock::worker::length(clock));
+    put_field(out, 0, 8, clock_steps::worker::length(clock));
     put_field(out, 8, 8, epoch(clock));
     put_field(out, 16, 8, reading(clock));
     put_field(out, 24, 8, rounding.state);

@@ -98,8 +98,8 @@ fn perform(call: Call) -> Answer {
     let clock = clock_of(call.clock);
     match kind {
         1 => read(0, clock, 0, clock),
-        2 => moved(clock, clock.tick()),
-        3 => moved(clock, clock.advance_to(call.reading)),
+        2 => moved(clock, clock_calls::tick(clock)),
+        3 => moved(clock, clock_calls::advance_to(clock, call.reading)),
         4 => read(0, clock, 0, clock_of(call.other)),
         _ => read(answer::NO_SUCH_KIND, clock, 0, clock),
     }
@@ -127,8 +127,8 @@ fn moved(before: SubWindowClock, answer: MovedAnswer) -> Answer {
 
 // What a clock reads, and whether it is in the other's frame.
 fn read(refused: u64, clock: SubWindowClock, crossed: u64, other: SubWindowClock) -> Answer {
-    let n = clock.n();
-    let fraction = clock.residual_fraction();
+    let n = clock_calls::n(clock);
+    let fraction = clock_calls::residual_fraction(clock);
     let fields = fields_of(clock);
     let n_verdict = n.verdict;
     let fraction_verdict = fraction.verdict;
@@ -142,7 +142,7 @@ fn read(refused: u64, clock: SubWindowClock, crossed: u64, other: SubWindowClock
         crossed,
         n: n.n,
         fraction: floats::bits(fraction.fraction),
-        same_frame: answer::flag(clock.same_frame(other)),
+        same_frame: answer::flag(clock_steps::same_frame(clock, other)),
     }
 }
 

@@ -193,7 +193,7 @@ pub fn answer_of(outcome: Outcome, before: MicroCm, grid: &[u8]) -> Answer {
     let rounding = sketch.rounding;
     let figures = outcome.figures;
     let fields = clocks::fields_of(clock);
-    let n = clock.n();
+    let n = clock_calls::n(clock);
     let verdict = n.verdict;
     Answer {
         refused: answer::first(outcome.refused, answer::refusal(verdict)),
@@ -217,5 +217,5 @@ fn same_settings(one: MicroCm, other: MicroCm) -> bool {
         && one.cols == other.cols
         && mine.t == its.t
         && mine.c == its.c
-        && clock.same_frame(its_clock)
+        && clock_steps::same_frame(clock, its_clock)
 }
