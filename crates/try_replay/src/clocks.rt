@@ -1,4 +1,4 @@
-// The file `clock`: the calls of the crate clock.
+// The file `clock`: the calls of the crate clock_calls, and `same_frame`.
 use crate::answer;
 use crate::report;
 use crate::tally::Tally;
