@@ -1,16 +1,17 @@
 -- A call at the edge is the core's call between two changes of form, so its outcome is the core's in the other form. Assumes nothing.
 use Prim.Native.Nat.{ℕ}
 use mathlib.Core.Path.{_≡_, refl, ap, _∙_}
-use mathlib.Core.List.{List}
+use mathlib.Core.List.{List, [], _∷_}
 use lib.Ieee.{Float}
 use Rattle.refusal.specs.declared.Verdict.{Verdict}
+use Rattle.refusal.specs.Refusals.{numberOf, indexOf, whenAccepted}
 use Rattle.cell.specs.declared.MicroParams.{MicroParams}
 use Rattle.cell.specs.declared.LayoutAnswer.{LayoutAnswer}
 use Rattle.cell.specs.declared.ZoomAnswer.{ZoomAnswer}
 use Rattle.cell.specs.declared.ShutterAnswer.{ShutterAnswer}
 use Rattle.cell.specs.declared.PixelAnswer.{PixelAnswer}
 use Rattle.cell.specs.declared.CellAnswer.{CellAnswer}
-use Rattle.cell.specs.Refusals.{CellOutcome, cellOutcome, layoutCall, maxZoomCall, cellVerdict, zoomCall, shutterCall, pixelCall}
+use Rattle.cell.specs.Refusals as cells
 use Rattle.clock.specs.declared.SubWindowClock.{SubWindowClock}
 use Rattle.sketch.specs.declared.MicroCm.{MicroCm}
 use Rattle.sketch.specs.declared.SketchAnswer.{SketchAnswer}
@@ -27,163 +28,148 @@ use Rattle.codes.specs.declared.WatchAnswer.{WatchAnswer}
 use Rattle.codes.specs.declared.AskAnswer.{AskAnswer}
 use Rattle.codes.specs.Refusals.{setOutcome, setCall, askOutcome, askCall}
 use Rattle.service.specs.declared.ServiceAnswer.{ServiceAnswer}
-use Rattle.service.specs.Service.{serviceOutcome, startCall, loadCall}
-use Rattle.edge_values.specs.declared.PlainWatch.{PlainWatch}
-use Rattle.edge_values.specs.declared.PlainStart.{PlainStart}
-use Rattle.edge_values.specs.declared.PlainWatched.{PlainWatched}
-use Rattle.edge_values.specs.declared.PlainAsked.{PlainAsked}
-use Rattle.edge_values.specs.declared.PlainSketch.{PlainSketch}
-use Rattle.edge_values.specs.declared.PlainSettings.{PlainSettings}
-use Rattle.edge_values.specs.declared.PlainChange.{PlainChange}
-use Rattle.edge_values.specs.declared.PlainAnswer.{PlainAnswer}
-use Rattle.edge_values.specs.declared.PlainReading.{PlainReading}
-use Rattle.edge_values.specs.declared.PlainNumber.{PlainNumber}
-use Rattle.edge_values.specs.declared.PlainFigure.{PlainFigure}
-use Rattle.edge_values.specs.declared.PlainVerdict.{PlainVerdict}
-use Rattle.edge_values.specs.declared.PlainAudit.{PlainAudit}
-use Rattle.edge_values.specs.declared.PlainDrawn.{PlainDrawn}
-use Rattle.edge_values.specs.Edge.{clockOf, sketchOf, paramsOf, startOf, startOutcome, startedOf, drawnOf, plainCell, cellOf}
-use Rattle.edge_values.specs.Edge.{PlainOutcome, settingsOf, sketchWith, readingAfter, stateAfter, toldOf, changedOf, changeOf, plainOutcome, inPlace}
-use Rattle.edge_values.specs.Edge.{plainReading, valueOf, figureOf, meanOf, highestOf, depthOf, zoomOf, shutterOf, pixelOf, verdictOf, auditOf}
-use Rattle.edge_values.specs.Edge.{storeLengthOf, plainSave, saveOf, watchOf, watchedOf, plainSet, setOf, askedOf, plainAsk, askOf}
-use Rattle.edge.specs.Calls.{startedWith, updated, updatedAt, advanced, merged, leftInPlace, codesSet, codesAsked}
-
--- A FRESH START
-module _ (clock : SubWindowClock) (rows cols t c kind length epoch seed : ℕ) (ec : clock ≡ clockOf kind length epoch epoch) where
-  pub fresh-told : (a : ServiceAnswer) (l g : List ℕ) (r : PlainStart) → serviceOutcome a l ≡ startCall rows cols (paramsOf t c) clock seed g
-      → r ≡ startOf a → startOutcome r l ≡ startedWith rows cols t c kind length epoch seed g
-  fresh-told a l g r e er =
-      let q : serviceOutcome a l ≡ startCall rows cols (paramsOf t c) (clockOf kind length epoch epoch) seed g = e ∙ rw ec in
-      rw er (ap startedOf q)
+use Rattle.service.specs.Service.{ServiceOutcome, serviceOutcome, startCall, loadCall}
+use Rattle.edge_values.specs.Edge.{clockOf, baseOf, paramsOf, sketchOf, watchOf, watchWords, wordsAfter, changeOf, changed, changedOf}
+use Rattle.edge_values.specs.Edge.{sketchAfter, codesAfter, started, startedOf, loaded, loadedOf, figuresOf, itemsOf, read, readOf}
+use Rattle.edge_values.specs.Edge.{valued, told, foundOf, saved, savedOf, codesSet, codesSetOf, codesAsked, codesAskedOf, celled, celledOf, pixel}
+use Rattle.edge.specs.Calls.{startedWith, loadedFrom, updated, updatedAt, advanced, merged, estimated, estimatedWith, meanTold, highestTold, audited}
+use Rattle.edge.specs.Calls.{storeLengthTold, savedAs, codesSetBy, codesAskedBy, depthTold, baseTold, zoomTold, shutterTold, pixelTold}
+use Rattle.edge.specs.Calls.{inserted, entered, cellsMerged}
 
 -- CALLS THAT CHANGE A SKETCH
--- the answer r is the core's answer a, told to the caller of the sketch s
-abbrev Tells : PlainSketch → SketchAnswer → PlainAnswer → Type 0
-Tells s a r = r ≡ changedOf (settingsOf s) (s .reading) (s .state) a
+module _ (w w' l : List ℕ) (k : MicroCm) (ek : k ≡ sketchOf w) (a : SketchAnswer) (g' : List ℕ) (r : ℕ)
+    (left : (r ≡ numberOf (a .verdict)) × (w' ≡ wordsAfter w a) × (l ≡ changeOf (a .verdict) (a .draws))) where
+  put : (o : SketchOutcome) → sketchOutcome a g' ≡ o → changed r w' g' l ≡ changedOf w o
+  put o e = rw (left .0, left .1, left .2) (ap (changedOf w) e)
 
-changed : (s : PlainSketch) (a : SketchAnswer) (g : List ℕ) (o : SketchOutcome) (r : PlainAnswer)
-    → Tells s a r → sketchOutcome a g ≡ o → plainOutcome r g ≡ changeOf s o
-changed s a g o r er e = rw er (ap (changeOf s) e)
+  pub update-put : (key g : List ℕ) → sketchOutcome a g' ≡ updateCall k key g → changed r w' g' l ≡ updated w key g
+  update-put key g e = put (updateCall (sketchOf w) key g) (e ∙ rw ek)
 
-module _ (s s' : PlainSketch) (k k' : MicroCm) (ek : k ≡ sketchOf s) (ek' : k' ≡ sketchOf s') where
-  pub merge-told : (a : SketchAnswer) (r : PlainAnswer) (l g g' : List ℕ) → sketchOutcome a l ≡ mergeCall k g k' g'
-      → Tells s a r → plainOutcome r l ≡ merged s g s' g'
-  merge-told a r l g g' e er = changed s a l (mergeCall (sketchOf s) g (sketchOf s') g') r er (e ∙ rw (ek, ek'))
+  pub update-at-put : (key : List ℕ) (time : ℕ) (g : List ℕ) → sketchOutcome a g' ≡ updateAtCall k key time g
+      → changed r w' g' l ≡ updatedAt w key time g
+  update-at-put key time g e = put (updateAtCall (sketchOf w) key time g) (e ∙ rw ek)
 
--- in place
-module _ (m : PlainSettings) (reading state reading' state' : ℕ) (k : MicroCm) (ek : k ≡ sketchOf (sketchWith m reading state))
-    (a : SketchAnswer) (l : List ℕ) (r : PlainChange)
-    (told : (r ≡ toldOf a) × (reading' ≡ readingAfter reading a) × (state' ≡ stateAfter state a)) where
-  abbrev s : PlainSketch
-  s = sketchWith m reading state
+  pub advance-put : (time : ℕ) (g : List ℕ) → sketchOutcome a g' ≡ advanceCall k time g → changed r w' g' l ≡ advanced w time g
+  advance-put time g e = put (advanceCall (sketchOf w) time g) (e ∙ rw ek)
 
-  put : (o : SketchOutcome) → sketchOutcome a l ≡ o → leftInPlace m r reading' state' l ≡ changeOf s o
-  put o e = changed s a l o (inPlace m r reading' state') (rw (told .0, told .1, told .2) refl) e
+  pub merge-put : (g other g₂ : List ℕ) (j : MicroCm) → j ≡ sketchOf other → sketchOutcome a g' ≡ mergeCall k g j g₂
+      → changed r w' g' l ≡ merged w g other g₂
+  merge-put g other g₂ j ej e = put (mergeCall (sketchOf w) g (sketchOf other) g₂) (e ∙ rw (ek, ej))
 
-  pub update-put : (key g : List ℕ) → sketchOutcome a l ≡ updateCall k key g → leftInPlace m r reading' state' l ≡ updated s key g
-  update-put key g e = put (updateCall (sketchOf s) key g) (e ∙ rw ek)
+-- A FRESH START AND A LOAD
+module _ (w w' p p' : List ℕ) (a : ServiceAnswer) (r : ℕ) (g' : List ℕ) where
+  start : (o : ServiceOutcome) → serviceOutcome a g' ≡ o
+      → (r ≡ numberOf (a .verdict)) × (w' ≡ sketchAfter w a) × (p' ≡ codesAfter p a) → started r w' p' g' ≡ startedOf w p o
+  start o e left = rw (left .0, left .1, left .2) (ap (startedOf w p) e)
 
-  pub update-at-put : (key : List ℕ) (time : ℕ) (g : List ℕ) → sketchOutcome a l ≡ updateAtCall k key time g
-      → leftInPlace m r reading' state' l ≡ updatedAt s key time g
-  update-at-put key time g e = put (updateAtCall (sketchOf s) key time g) (e ∙ rw ek)
+  pub new-put : (clock : SubWindowClock) (params : MicroParams) (rows cols t c kind length epoch seed : ℕ) (g : List ℕ)
+      → clock ≡ clockOf kind length epoch epoch → params ≡ paramsOf t c
+      → serviceOutcome a g' ≡ startCall rows cols params clock seed g
+      → (r ≡ numberOf (a .verdict)) × (w' ≡ sketchAfter w a) × (p' ≡ codesAfter p a)
+      → started r w' p' g' ≡ startedWith w p rows cols t c kind length epoch seed g
+  new-put clock params rows cols t c kind length epoch seed g ec ep e left =
+      start (startCall rows cols (paramsOf t c) (clockOf kind length epoch epoch) seed g) (e ∙ rw (ec, ep)) left
 
-  pub advance-put : (time : ℕ) (g : List ℕ) → sketchOutcome a l ≡ advanceCall k time g → leftInPlace m r reading' state' l ≡ advanced s time g
-  advance-put time g e = put (advanceCall (sketchOf s) time g) (e ∙ rw ek)
-
--- and by value: the same on copies
-module _ (s : PlainSketch) (m : PlainSettings) (em : m ≡ settingsOf s) (change : PlainChange) (reading' state' : ℕ)
-    (l : List ℕ) (r : PlainAnswer) (er : r ≡ inPlace m change reading' state') where
-  abbrev copy : PlainSketch
-  copy = sketchWith m (s .reading) (s .state)
-
-  abbrev left : PlainOutcome
-  left = leftInPlace m change reading' state' l
-
-  pub update-told : (key g : List ℕ) → left ≡ updated copy key g → plainOutcome r l ≡ updated s key g
-  update-told key g e = rw er (e ∙ rw em refl)
-
-  pub update-at-told : (key : List ℕ) (time : ℕ) (g : List ℕ) → left ≡ updatedAt copy key time g → plainOutcome r l ≡ updatedAt s key time g
-  update-at-told key time g e = rw er (e ∙ rw em refl)
-
-  pub advance-told : (time : ℕ) (g : List ℕ) → left ≡ advanced copy time g → plainOutcome r l ≡ advanced s time g
-  advance-told time g e = rw er (e ∙ rw em refl)
+  pub load-put : (g store : List ℕ) (index : ℕ) → serviceOutcome a g' ≡ loadCall g store
+      → (r ≡ numberOf (a .verdict)) × (w' ≡ sketchAfter w a) × (p' ≡ codesAfter p a) × (index ≡ indexOf (a .verdict))
+      → loaded (started r w' p' g') index ≡ loadedFrom w p g store
+  load-put g store index e left = rw (left .0, left .1, left .2, left .3) (ap (loadedOf w p) e)
 
 -- CALLS THAT READ A SKETCH
-module _ (s : PlainSketch) (k : MicroCm) (ek : k ≡ sketchOf s) where
-  pub read-told : (key g : List ℕ) (a : ReadingAnswer) (r : PlainReading) → a ≡ readCall k key g
-      → r ≡ plainReading a → r ≡ plainReading (readCall (sketchOf s) key g)
-  read-told key g a r e er = er ∙ rw (e, ek)
+module _ (w : List ℕ) (k : MicroCm) (ek : k ≡ sketchOf w) (r : ℕ) where
+  module _ (a : ReadingAnswer) (f : List Float) (l : List ℕ) (left : (r ≡ numberOf (a .verdict)) × (f ≡ figuresOf a) × (l ≡ itemsOf a)) where
+    pub read-told : (key g : List ℕ) → a ≡ readCall k key g → read r f l ≡ estimated w key g
+    read-told key g e =
+        let q : a ≡ readCall (sketchOf w) key g = e ∙ rw ek in
+        rw (left .0, left .1, left .2) (ap readOf q)
 
-  pub read-with-told : (key : List ℕ) (fraction : Float) (g : List ℕ) (a : ReadingAnswer) (r : PlainReading) → a ≡ readWithCall k key fraction g
-      → r ≡ plainReading a → r ≡ plainReading (readWithCall (sketchOf s) key fraction g)
-  read-with-told key fraction g a r e er = er ∙ rw (e, ek)
+    pub read-with-told : (key : List ℕ) (fraction : Float) (g : List ℕ) → a ≡ readWithCall k key fraction g
+        → read r f l ≡ estimatedWith w key fraction g
+    read-with-told key fraction g e =
+        let q : a ≡ readWithCall (sketchOf w) key fraction g = e ∙ rw ek in
+        rw (left .0, left .1, left .2) (ap readOf q)
 
-  pub mean-told : (key g : List ℕ) (a : MeanAnswer) (r : PlainNumber) → a ≡ meanCall k key g
-      → r ≡ valueOf (a .verdict) (a .mean) → r ≡ meanOf (meanCall (sketchOf s) key g)
-  mean-told key g a r e er = er ∙ rw (e, ek)
+  pub mean-told : (key g : List ℕ) (a : MeanAnswer) (l : List ℕ) → a ≡ meanCall k key g
+      → (r ≡ numberOf (a .verdict)) × (l ≡ indexOf (a .verdict) ∷ a .mean ∷ []) → told r l ≡ meanTold w key g
+  mean-told key g a l e left = rw (left .0, left .1, e, ek) refl
 
-  pub bucket-told : (row col : ℕ) (g : List ℕ) (v : Verdict) (r : PlainVerdict) → v ≡ bucketVerdict k row col g
-      → r ≡ verdictOf v → r ≡ verdictOf (bucketVerdict (sketchOf s) row col g)
-  bucket-told row col g v r e er = er ∙ rw (e, ek)
+  pub highest-told : (g : List ℕ) (a : HighestAnswer) (l : List ℕ) → a ≡ highestCall k g
+      → (r ≡ numberOf (a .verdict)) × (l ≡ indexOf (a .verdict) ∷ a .zoom ∷ []) → told r l ≡ highestTold w g
+  highest-told g a l e left = rw (left .0, left .1, e, ek) refl
 
-  pub highest-told : (g : List ℕ) (a : HighestAnswer) (r : PlainNumber) → a ≡ highestCall k g
-      → r ≡ valueOf (a .verdict) (a .zoom) → r ≡ highestOf (highestCall (sketchOf s) g)
-  highest-told g a r e er = er ∙ rw (e, ek)
+  pub audit-told : (g : List ℕ) (a : AuditAnswer) (l : List ℕ) → a ≡ auditCall k g
+      → (r ≡ numberOf (a .verdict)) × (l ≡ foundOf (a .audit)) → told r l ≡ audited w g
+  audit-told g a l e left = rw (left .0, left .1, e, ek) refl
 
-  pub audit-told : (g : List ℕ) (a : AuditAnswer) (r : PlainAudit) → a ≡ auditCall k g → r ≡ auditOf a → r ≡ auditOf (auditCall (sketchOf s) g)
-  audit-told g a r e er = er ∙ rw (e, ek)
+  pub bucket-told : (row col : ℕ) (g : List ℕ) (v : Verdict) → v ≡ bucketVerdict k row col g → r ≡ numberOf v
+      → r ≡ numberOf (bucketVerdict (sketchOf w) row col g)
+  bucket-told row col g v e er = er ∙ rw (e, ek)
 
   -- STORES
-  pub length-told : (a : LengthAnswer) (r : PlainNumber) → a ≡ lengthCall k
-      → r ≡ valueOf (a .verdict) (a .length) → r ≡ storeLengthOf (lengthCall (sketchOf s))
-  length-told a r e er = er ∙ rw (e, ek)
+  pub length-told : (a : LengthAnswer) → a ≡ lengthCall k → r ≡ numberOf (a .verdict) → valued r (a .length) ≡ storeLengthTold w
+  length-told a e er = rw (er, e, ek) refl
 
-  pub save-told : (g store l : List ℕ) (v : Verdict) (r : PlainVerdict) → saveOutcome v l ≡ saveCall k g store
-      → r ≡ verdictOf v → plainSave r l ≡ saveOf (saveCall (sketchOf s) g store)
-  save-told g store l v r e er = let q : saveOutcome v l ≡ saveCall (sketchOf s) g store = e ∙ rw ek in rw er (ap saveOf q)
+  pub save-told : (g store store' : List ℕ) (v : Verdict) (index : ℕ) → saveOutcome v store' ≡ saveCall k g store
+      → (r ≡ numberOf v) × (index ≡ indexOf v) → saved r store' index ≡ savedAs w g store
+  save-told g store store' v index e left =
+      let q : saveOutcome v store' ≡ saveCall (sketchOf w) g store = e ∙ rw ek in
+      rw (left .0, left .1) (ap savedOf q)
 
-pub load-told : (g store l : List ℕ) (a : ServiceAnswer) (r : PlainStart) → serviceOutcome a l ≡ loadCall g store
-    → r ≡ startOf a → startOutcome r l ≡ startedOf (loadCall g store)
-load-told g store l a r e er = rw er (ap startedOf e)
+  -- WATCHED CODES
+  module _ (p p' : List ℕ) (watch : Watch) (ew : watch ≡ watchOf p) where
+    pub set-told : (columns limits kept kept-limits now now-limits : List ℕ) (a : WatchAnswer)
+        → setOutcome a now now-limits ≡ setCall k watch columns limits kept kept-limits
+        → (r ≡ numberOf (a .verdict)) × (p' ≡ whenAccepted (a .verdict) (watchWords (a .watch)) p)
+        → codesSet r p' now now-limits ≡ codesSetBy w p columns limits kept kept-limits
+    set-told columns limits kept kept-limits now now-limits a e left =
+        let q : setOutcome a now now-limits ≡ setCall (sketchOf w) (watchOf p) columns limits kept kept-limits = e ∙ rw (ek, ew) in
+        rw (left .0, left .1) (ap (codesSetOf p) q)
 
--- WATCHED CODES
-module _ (s : PlainSketch) (k : MicroCm) (ek : k ≡ sketchOf s) (p : PlainWatch) (w : Watch) (ew : w ≡ watchOf p) where
-  pub set-told : (columns limits kept kept-limits now now-limits : List ℕ) (a : WatchAnswer) (r : PlainWatched)
-      → setOutcome a now now-limits ≡ setCall k w columns limits kept kept-limits → r ≡ watchedOf a
-      → plainSet r now now-limits ≡ codesSet s p columns limits kept kept-limits
-  set-told columns limits kept kept-limits now now-limits a r e er =
-      let q : setOutcome a now now-limits ≡ setCall (sketchOf s) (watchOf p) columns limits kept kept-limits = e ∙ rw (ek, ew) in
-      rw er (ap setOf q)
-
-  pub ask-told : (columns limits g list list' : List ℕ) (a : AskAnswer) (r : PlainAsked)
-      → askOutcome a list' ≡ askCall k w columns limits g list → r ≡ askedOf a → plainAsk r list' ≡ codesAsked s p columns limits g list
-  ask-told columns limits g list list' a r e er =
-      let q : askOutcome a list' ≡ askCall (sketchOf s) (watchOf p) columns limits g list = e ∙ rw (ek, ew) in
-      rw er (ap askOf q)
+    pub ask-told : (columns limits g list list' l : List ℕ) (a : AskAnswer) → askOutcome a list' ≡ askCall k watch columns limits g list
+        → (r ≡ numberOf (a .verdict)) × (p' ≡ whenAccepted (a .verdict) (watchWords (a .watch)) p)
+        × (l ≡ indexOf (a .verdict) ∷ a .listed ∷ [])
+        → codesAsked r p' list' l ≡ codesAskedBy w p columns limits g list
+    ask-told columns limits g list list' l a e left =
+        let q : askOutcome a list' ≡ askCall (sketchOf w) (watchOf p) columns limits g list = e ∙ rw (ek, ew) in
+        rw (left .0, left .1, left .2) (ap (codesAskedOf p) q)
 
 -- ONE CELL
-module _ (p : MicroParams) where
-  pub depth-told : (a : LayoutAnswer) (r : PlainNumber) → a ≡ layoutCall p
-      → r ≡ valueOf (a .verdict) (a .layout .depth) → r ≡ depthOf (layoutCall p)
-  depth-told a r e er = er ∙ rw e
+module _ (r : ℕ) where
+  pub base-told : (c base : ℕ) (a : ZoomAnswer) → base ≡ baseOf c → a ≡ cells.maxZoomCall base → r ≡ numberOf (a .verdict)
+      → valued r (a .zoom) ≡ baseTold c
+  base-told c base a eb e er = rw (er, e, eb) refl
 
-  pub check-told : (b : List ℕ) (v : Verdict) (r : PlainVerdict) → v ≡ cellVerdict p b → r ≡ verdictOf v → r ≡ verdictOf (cellVerdict p b)
-  check-told b v r e er = er ∙ rw e
+  module _ (t c : ℕ) (params : MicroParams) (ep : params ≡ paramsOf t c) where
+    pub depth-told : (a : LayoutAnswer) → a ≡ cells.layoutCall params → r ≡ numberOf (a .verdict) → valued r (a .layout .depth) ≡ depthTold t c
+    depth-told a e er = rw (er, e, ep) refl
 
-  pub zoom-told : (b : List ℕ) (a : ZoomAnswer) (r : PlainNumber) → a ≡ zoomCall p b
-      → r ≡ valueOf (a .verdict) (a .zoom) → r ≡ zoomOf (zoomCall p b)
-  zoom-told b a r e er = er ∙ rw e
+    pub check-told : (b : List ℕ) (v : Verdict) → v ≡ cells.cellVerdict params b → r ≡ numberOf v → r ≡ numberOf (cells.cellVerdict (paramsOf t c) b)
+    check-told b v e er = er ∙ rw (e, ep)
 
-  pub shutter-told : (b : List ℕ) (a : ShutterAnswer) (r : PlainNumber) → a ≡ shutterCall p b
-      → r ≡ valueOf (a .verdict) (a .shutter) → r ≡ shutterOf (shutterCall p b)
-  shutter-told b a r e er = er ∙ rw e
+    pub zoom-told : (b : List ℕ) (a : ZoomAnswer) → a ≡ cells.zoomCall params b → r ≡ numberOf (a .verdict) → valued r (a .zoom) ≡ zoomTold t c b
+    zoom-told b a e er = rw (er, e, ep) refl
 
-  pub pixel-told : (n : ℕ) (b : List ℕ) (a : PixelAnswer) (r : PlainFigure) → a ≡ pixelCall p n b
-      → r ≡ figureOf (a .verdict) (a .items) → r ≡ pixelOf (pixelCall p n b)
-  pixel-told n b a r e er = er ∙ rw e
+    pub shutter-told : (b : List ℕ) (a : ShutterAnswer) → a ≡ cells.shutterCall params b → r ≡ numberOf (a .verdict)
+        → valued r (a .shutter) ≡ shutterTold t c b
+    shutter-told b a e er = rw (er, e, ep) refl
 
-pub base-told : (c : ℕ) (a : ZoomAnswer) (r : PlainNumber) → a ≡ maxZoomCall c → r ≡ valueOf (a .verdict) (a .zoom) → r ≡ zoomOf (maxZoomCall c)
-base-told c a r e er = er ∙ rw e
+    pub pixel-told : (n : ℕ) (b : List ℕ) (a : PixelAnswer) → a ≡ cells.pixelCall params n b → r ≡ numberOf (a .verdict)
+        → pixel r (a .items) ≡ pixelTold t c n b
+    pixel-told n b a e er = rw (er, e, ep) refl
 
-pub cell-told : (l : List ℕ) (o : CellOutcome) (a : CellAnswer) (r : PlainDrawn) → cellOutcome l a ≡ o → r ≡ drawnOf a → plainCell r l ≡ cellOf o
-cell-told l o a r e er = rw er (ap cellOf e)
+    -- calls that change it
+    module _ (a : CellAnswer) (b b' : List ℕ) (state state' n : ℕ) (l : List ℕ)
+        (left : (r ≡ numberOf (a .verdict)) × (state' ≡ a .rounding .state) × (l ≡ changeOf (a .verdict) (a .draws))) where
+      cell-put : (o : cells.CellOutcome) → cells.cellOutcome b' a ≡ o → celled r b' state' l ≡ celledOf o
+      cell-put o e = rw (left .0, left .1, left .2) (ap celledOf e)
+
+      pub insert-put : cells.cellOutcome b' a ≡ cells.insertCall params n b state → celled r b' state' l ≡ inserted t c n b state
+      insert-put e = cell-put (cells.insertCall (paramsOf t c) n b state) (e ∙ rw ep)
+
+      pub enter-put : (crossed : ℕ) → cells.cellOutcome b' a ≡ cells.crossCall params n crossed b state
+          → celled r b' state' l ≡ entered t c n crossed b state
+      enter-put crossed e = cell-put (cells.crossCall (paramsOf t c) n crossed b state) (e ∙ rw ep)
+
+      pub merge-cell-put : (src : List ℕ) → cells.cellOutcome b' a ≡ cells.mergeCall params n b src state
+          → celled r b' state' l ≡ cellsMerged t c n b src state
+      merge-cell-put src e = cell-put (cells.mergeCall (paramsOf t c) n b src state) (e ∙ rw ep)

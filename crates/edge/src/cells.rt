@@ -1,108 +1,116 @@
 // The calls on one cell, for teaching and test.
-use cell::MicroLayout;
-use cell::MicroParams;
-use edge_values::PlainDrawn;
-use edge_values::PlainFigure;
-use edge_values::PlainNumber;
-use edge_values::PlainVerdict;
 use rounding::Rounding;
 ghost use mathlib.Core.Path.{_≡_};
-ghost use Rattle.cell.specs.Refusals.{layoutCall, maxZoomCall, cellVerdict, zoomCall, shutterCall, pixelCall, insertCall, crossCall, mergeCall};
-ghost use Rattle.edge_values.specs.Edge.{paramsOf, depthOf, zoomOf, shutterOf, pixelOf, verdictOf, plainCell, cellOf};
+ghost use Rattle.refusal.specs.Refusals.{numberOf};
+ghost use Rattle.cell.specs.Refusals.{cellVerdict};
+ghost use Rattle.edge_values.specs.Edge.{paramsOf, valued, pixel, celled};
+ghost use Rattle.edge.specs.Calls.{depthTold, baseTold, zoomTold, shutterTold, pixelTold, inserted, entered, cellsMerged};
 
 // How many bytes a cell takes.
 #[no_mangle]
-pub extern "C" fn microscope_depth(t: usize, c: u32) -> PlainNumber
-    ensures { λ r. ⌜ r ≡ depthOf (layoutCall (paramsOf t c)) ⌝ }
+pub extern "C" fn microscope_depth(t: u64, c: u64, depth: &mut u64) -> u64
+    ensures { λ r. ⌜ valued r (now (depth .exit)) ≡ depthTold t c ⌝ }
 {
-    let answer = cell_reading::layout(MicroParams { t, c });
-    let verdict = answer.verdict;
+    let answer = cell_reading::layout(edge_values::params(t, c));
     let layout = answer.layout;
-    edge_values::value(verdict, layout.depth as u64)
+    *depth = layout.depth as u64;
+    let verdict = answer.verdict;
+    edge_values::number(verdict)
 }
 
 // The largest zoom of a base.
 #[no_mangle]
-pub extern "C" fn microscope_base_max_zoom(c: u32) -> PlainNumber
-    ensures { λ r. ⌜ r ≡ zoomOf (maxZoomCall c) ⌝ }
+pub extern "C" fn microscope_base_max_zoom(c: u64, zoom: &mut u64) -> u64
+    ensures { λ r. ⌜ valued r (now (zoom .exit)) ≡ baseTold c ⌝ }
 {
-    let answer = cell_reading::max_zoom(c);
+    let answer = cell_reading::max_zoom(edge_values::base(c));
+    *zoom = answer.zoom as u64;
     let verdict = answer.verdict;
-    edge_values::value(verdict, answer.zoom as u64)
+    edge_values::number(verdict)
 }
 
 // Whether a cell is sound.
 #[no_mangle]
-pub extern "C" fn microscope_cell_check(cell: &[u8], t: usize, c: u32) -> PlainVerdict
-    ensures { λ r. ⌜ r ≡ verdictOf (cellVerdict (paramsOf t c) (now (cell .entry))) ⌝ }
+pub extern "C" fn microscope_cell_check(cell: &[u8], t: u64, c: u64) -> u64
+    ensures { λ r. ⌜ r ≡ numberOf (cellVerdict (paramsOf t c) (now (cell .entry))) ⌝ }
 {
-    let verdict = cell_reading::judge(cell, MicroParams { t, c });
-    edge_values::told(verdict)
+    let verdict = cell_reading::judge(cell, edge_values::params(t, c));
+    edge_values::number(verdict)
 }
 
 #[no_mangle]
-pub extern "C" fn microscope_cell_zoom(cell: &[u8], t: usize, c: u32) -> PlainNumber
-    ensures { λ r. ⌜ r ≡ zoomOf (zoomCall (paramsOf t c) (now (cell .entry))) ⌝ }
+pub extern "C" fn microscope_cell_zoom(cell: &[u8], t: u64, c: u64, zoom: &mut u64) -> u64
+    ensures { λ r. ⌜ valued r (now (zoom .exit)) ≡ zoomTold t c (now (cell .entry)) ⌝ }
 {
-    let answer = cell_reading::zoom(cell, MicroParams { t, c });
+    let answer = cell_reading::zoom(cell, edge_values::params(t, c));
+    *zoom = answer.zoom as u64;
     let verdict = answer.verdict;
-    edge_values::value(verdict, answer.zoom as u64)
+    edge_values::number(verdict)
 }
 
 #[no_mangle]
-pub extern "C" fn microscope_cell_shutter(cell: &[u8], t: usize, c: u32) -> PlainNumber
-    ensures { λ r. ⌜ r ≡ shutterOf (shutterCall (paramsOf t c) (now (cell .entry))) ⌝ }
+pub extern "C" fn microscope_cell_shutter(cell: &[u8], t: u64, c: u64, shutter: &mut u64) -> u64
+    ensures { λ r. ⌜ valued r (now (shutter .exit)) ≡ shutterTold t c (now (cell .entry)) ⌝ }
 {
-    let answer = cell_reading::shutter(cell, MicroParams { t, c });
+    let answer = cell_reading::shutter(cell, edge_values::params(t, c));
+    *shutter = answer.shutter as u64;
     let verdict = answer.verdict;
-    edge_values::value(verdict, answer.shutter as u64)
+    edge_values::number(verdict)
 }
 
 // The items that a cell counts for sub-window n: the pixel times c^Z.
 #[no_mangle]
-pub extern "C" fn microscope_cell_scaled_pixel(cell: &[u8], t: usize, c: u32, n: u64) -> PlainFigure
-    ensures { λ r. ⌜ r ≡ pixelOf (pixelCall (paramsOf t c) n (now (cell .entry))) ⌝ }
+pub extern "C" fn microscope_cell_scaled_pixel(
+    cell: &[u8],
+    t: u64,
+    c: u64,
+    n: u64,
+    items: &mut f64,
+) -> u64
+    ensures { λ r. ⌜ pixel r (now (items .exit)) ≡ pixelTold t c n (now (cell .entry)) ⌝ }
 {
-    let answer = cell_reading::scaled_pixel(cell, MicroParams { t, c }, n);
+    let answer = cell_reading::scaled_pixel(cell, edge_values::params(t, c), n);
+    *items = answer.items;
     let verdict = answer.verdict;
-    edge_values::figure(verdict, answer.items)
+    edge_values::number(verdict)
 }
 
 // Records an item of sub-window n.
 #[no_mangle]
 pub extern "C" fn microscope_cell_insert(
     cell: &mut [u8],
-    t: usize,
-    c: u32,
+    t: u64,
+    c: u64,
     n: u64,
-    state: u64,
-) -> PlainDrawn
-    ensures { λ r. ⌜ plainCell r (now (cell .exit)) ≡ cellOf (insertCall (paramsOf t c) n (now (cell .entry)) state) ⌝ }
+    state: &mut u64,
+    change: &mut [u64; 3],
+) -> u64
+    ensures { λ r. ⌜ celled r (now (cell .exit)) (now (state .exit)) (now (change .exit))
+        ≡ inserted t c n (now (cell .entry)) (now (state .entry)) ⌝ }
 {
-    let answer = cell_insertion::insert(cell, MicroParams { t, c }, n, Rounding { state });
-    edge_values::drawn(answer)
+    let rounding = Rounding { state: *state };
+    let answer = cell_insertion::insert(cell, edge_values::params(t, c), n, rounding);
+    edge_values::drawn(state, change, answer)
 }
 
 // Moves a cell into sub-window new_n, `crossed` sub-windows on.
 #[no_mangle]
 pub extern "C" fn microscope_cell_enter_sub_window(
     cell: &mut [u8],
-    t: usize,
-    c: u32,
+    t: u64,
+    c: u64,
     new_n: u64,
     crossed: u64,
-    state: u64,
-) -> PlainDrawn
-    ensures { λ r. ⌜ plainCell r (now (cell .exit)) ≡ cellOf (crossCall (paramsOf t c) «new_n» crossed (now (cell .entry)) state) ⌝ }
+    state: &mut u64,
+    change: &mut [u64; 3],
+) -> u64
+    ensures { λ r. ⌜ celled r (now (cell .exit)) (now (state .exit)) (now (change .exit))
+        ≡ entered t c «new_n» crossed (now (cell .entry)) (now (state .entry)) ⌝ }
 {
-    let answer = cell_crossing::enter_sub_window(
-        cell,
-        MicroParams { t, c },
-        new_n,
-        crossed,
-        Rounding { state },
-    );
-    edge_values::drawn(answer)
+    let rounding = Rounding { state: *state };
+    let params = edge_values::params(t, c);
+    let answer = cell_crossing::enter_sub_window(cell, params, new_n, crossed, rounding);
+    edge_values::drawn(state, change, answer)
 }
 
 // Adds the counts of src to those of dst, as they are at sub-window n. src is only read.
@@ -110,13 +118,16 @@ pub extern "C" fn microscope_cell_enter_sub_window(
 pub extern "C" fn microscope_cell_merge(
     dst: &mut [u8],
     src: &[u8],
-    t: usize,
-    c: u32,
+    t: u64,
+    c: u64,
     n: u64,
-    state: u64,
-) -> PlainDrawn
-    ensures { λ r. ⌜ plainCell r (now (dst .exit)) ≡ cellOf (mergeCall (paramsOf t c) n (now (dst .entry)) (now (src .entry)) state) ⌝ }
+    state: &mut u64,
+    change: &mut [u64; 3],
+) -> u64
+    ensures { λ r. ⌜ celled r (now (dst .exit)) (now (state .exit)) (now (change .exit))
+        ≡ cellsMerged t c n (now (dst .entry)) (now (src .entry)) (now (state .entry)) ⌝ }
 {
-    let answer = cell_merging::merge_cells(dst, src, MicroParams { t, c }, n, Rounding { state });
-    edge_values::drawn(answer)
+    let rounding = Rounding { state: *state };
+    let answer = cell_merging::merge_cells(dst, src, edge_values::params(t, c), n, rounding);
+    edge_values::drawn(state, change, answer)
 }

@@ -1,43 +1,48 @@
 // The calls on a store. The buffers are the caller's.
-use edge_values::PlainNumber;
-use edge_values::PlainSketch;
-use edge_values::PlainStart;
-use edge_values::PlainVerdict;
 ghost use mathlib.Core.Path.{_≡_};
-ghost use Rattle.store.specs.Refusals.{lengthCall, saveCall};
-ghost use Rattle.service.specs.Service.{loadCall};
-ghost use Rattle.edge_values.specs.Edge.{sketchOf, startOutcome, startedOf, storeLengthOf, plainSave, saveOf};
+ghost use Rattle.edge_values.specs.Edge.{started, loaded, valued, saved};
+ghost use Rattle.edge.specs.Calls.{storeLengthTold, savedAs, loadedFrom};
 
 // How many bytes a sketch's store takes.
 #[no_mangle]
-pub extern "C" fn microscope_store_length(sketch: PlainSketch) -> PlainNumber
-    ensures { λ r. ⌜ r ≡ storeLengthOf (lengthCall (sketchOf sketch)) ⌝ }
+pub extern "C" fn microscope_store_length(sketch: &[u64; 9], length: &mut u64) -> u64
+    ensures { λ r. ⌜ valued r (now (length .exit)) ≡ storeLengthTold (now (sketch .entry)) ⌝ }
 {
-    let core = edge_values::core(sketch);
+    let core = edge_values::sketch(sketch);
     let answer = store::store_length(core);
+    *length = answer.length as u64;
     let verdict = answer.verdict;
-    edge_values::value(verdict, answer.length as u64)
+    edge_values::number(verdict)
 }
 
 // The whole buffer is written; no byte if refused.
 #[no_mangle]
 pub extern "C" fn microscope_save(
-    store: &mut [u8],
-    sketch: PlainSketch,
+    sketch: &[u64; 9],
     grid: &[u8],
-) -> PlainVerdict
-    ensures { λ r. ⌜ plainSave r (now (store .exit)) ≡ saveOf (saveCall (sketchOf sketch) (now (grid .entry)) (now (store .entry))) ⌝ }
+    store: &mut [u8],
+    index: &mut u64,
+) -> u64
+    ensures { λ r. ⌜ saved r (now (store .exit)) (now (index .exit))
+        ≡ savedAs (now (sketch .entry)) (now (grid .entry)) (now (store .entry)) ⌝ }
 {
-    let core = edge_values::core(sketch);
+    let core = edge_values::sketch(sketch);
     let verdict = store::save(store, core, grid);
-    edge_values::told(verdict)
+    edge_values::indexed(index, verdict)
 }
 
-// The sketch of a store, its grid, and no codes; the grid stays as it was if refused.
+// The sketch of a store, its grid, and no codes; all as it was if refused.
 #[no_mangle]
-pub extern "C" fn microscope_load(grid: &mut [u8], store: &[u8]) -> PlainStart
-    ensures { λ r. ⌜ startOutcome r (now (grid .exit)) ≡ startedOf (loadCall (now (grid .entry)) (now (store .entry))) ⌝ }
+pub extern "C" fn microscope_load(
+    sketch: &mut [u64; 9],
+    watch: &mut [u64; 3],
+    grid: &mut [u8],
+    store: &[u8],
+    index: &mut u64,
+) -> u64
+    ensures { λ r. ⌜ loaded (started r (now (sketch .exit)) (now (watch .exit)) (now (grid .exit))) (now (index .exit))
+        ≡ loadedFrom (now (sketch .entry)) (now (watch .entry)) (now (grid .entry)) (now (store .entry)) ⌝ }
 {
     let answer = service::load(grid, store);
-    edge_values::started(answer)
+    edge_values::loaded(sketch, watch, index, answer)
 }

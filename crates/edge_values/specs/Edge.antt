@@ -1,17 +1,15 @@
--- The edge to C and Rust: what each call's answer becomes as plain numbers, and the sketch that plain numbers stand for.
-use Prim.Native.Nat.{ℕ}
+-- The edge to C and Rust: what words of 64 bits stand for, and what each call leaves. A call returns document 01's number, 0 if it was
+-- accepted; the rest stands behind pointers. What a call changes, a refused one leaves; what it tells is written either way.
+use Prim.Native.Nat.{ℕ, _^_}
 use mathlib.Core.Bool.{cond}
-use mathlib.Core.List.{List}
-use lib.Dec.{eqb}
+use mathlib.Core.List.{List, [], _∷_}
+use lib.Dec.{eqb, ltb}
 use lib.Ieee.{Float}
+use lib.ListN.{getD, set}
 use Rattle.refusal.specs.declared.Verdict.{Verdict}
 use Rattle.refusal.specs.Refusals.{numberOf, indexOf, whenAccepted}
 use Rattle.cell.specs.declared.MicroParams.{MicroParams}
-use Rattle.cell.specs.declared.LayoutAnswer.{LayoutAnswer}
-use Rattle.cell.specs.declared.ZoomAnswer.{ZoomAnswer}
-use Rattle.cell.specs.declared.ShutterAnswer.{ShutterAnswer}
 use Rattle.cell.specs.declared.PixelAnswer.{PixelAnswer}
-use Rattle.cell.specs.declared.CellAnswer.{CellAnswer}
 use Rattle.cell.specs.Refusals.{CellOutcome}
 use Rattle.clock.specs.declared.SubWindowClock.{SubWindowClock}
 use Rattle.clock.specs.declared.SubWindowClock.the-variants.{CountBased, TimeBased}
@@ -19,258 +17,226 @@ use Rattle.clock.specs.Clock.{readingOf}
 use Rattle.sketch.specs.declared.MicroCm.{MicroCm}
 use Rattle.sketch.specs.declared.SketchAnswer.{SketchAnswer}
 use Rattle.sketch.specs.declared.ReadingAnswer.{ReadingAnswer}
-use Rattle.sketch.specs.declared.MeanAnswer.{MeanAnswer}
-use Rattle.sketch.specs.declared.HighestAnswer.{HighestAnswer}
 use Rattle.sketch.specs.declared.AuditAnswer.{AuditAnswer}
 use Rattle.sketch.specs.declared.Finding.{Finding}
 use Rattle.sketch.specs.declared.Finding.the-variants.{Sound, Unsound}
 use Rattle.sketch.specs.Refusals.{SketchOutcome}
-use Rattle.store.specs.declared.LengthAnswer.{LengthAnswer}
 use Rattle.store.specs.Refusals.{SaveOutcome}
 use Rattle.codes.specs.declared.Watch.{Watch}
-use Rattle.codes.specs.declared.WatchAnswer.{WatchAnswer}
-use Rattle.codes.specs.declared.AskAnswer.{AskAnswer}
 use Rattle.codes.specs.Refusals.{SetOutcome, AskOutcome}
 use Rattle.service.specs.declared.ServiceAnswer.{ServiceAnswer}
 use Rattle.service.specs.Service.{ServiceOutcome}
-use Rattle.edge_values.specs.declared.PlainSketch.{PlainSketch}
-use Rattle.edge_values.specs.declared.PlainSettings.{PlainSettings}
-use Rattle.edge_values.specs.declared.PlainWatch.{PlainWatch}
-use Rattle.edge_values.specs.declared.PlainStart.{PlainStart}
-use Rattle.edge_values.specs.declared.PlainWatched.{PlainWatched}
-use Rattle.edge_values.specs.declared.PlainAsked.{PlainAsked}
-use Rattle.edge_values.specs.declared.PlainAnswer.{PlainAnswer}
-use Rattle.edge_values.specs.declared.PlainChange.{PlainChange}
-use Rattle.edge_values.specs.declared.PlainReading.{PlainReading}
-use Rattle.edge_values.specs.declared.PlainNumber.{PlainNumber}
-use Rattle.edge_values.specs.declared.PlainFigure.{PlainFigure}
-use Rattle.edge_values.specs.declared.PlainVerdict.{PlainVerdict}
-use Rattle.edge_values.specs.declared.PlainAudit.{PlainAudit}
-use Rattle.edge_values.specs.declared.PlainDrawn.{PlainDrawn}
 
 -- THE CLOCK of a kind: 0 counts items, 1 goes by time; any other kind is a clock of length 0, which every call refuses by 3
-unfoldable pub clockOf : ℕ → ℕ → ℕ → ℕ → SubWindowClock
+unfoldable pub clockOf : (kind length epoch reading : ℕ) → SubWindowClock
 clockOf kind length epoch reading = cond (eqb kind 0) (CountBased length reading) (cond (eqb kind 1) (TimeBased length epoch reading) (CountBased 0 0))
 
--- THE SKETCH that plain numbers stand for, and the plain numbers of a sketch: a count clock has no epoch, so it is 0
-abbrev pub sketchOf : PlainSketch → MicroCm
-sketchOf s =
+-- THE SETTINGS: a base that 32 bits do not hold stands for 0, which every call refuses by 2
+unfoldable pub baseOf : ℕ → ℕ
+baseOf c = cond (ltb c (2 ^ 32)) c 0
+
+abbrev pub paramsOf : ℕ → ℕ → MicroParams
+paramsOf t c = record { t = t; c = baseOf c }
+
+-- A SKETCH is nine words: rows, cols, t, c, the clock's kind, length, epoch and reading, the random state
+unfoldable pub sketchOf : List ℕ → MicroCm
+sketchOf w =
     record {
-      rows = s .rows;
-      cols = s .cols;
-      params = record { t = s .t; c = s .c };
-      clock = clockOf (s .kind) (s .length) (s .epoch) (s .reading);
-      rounding = record { state = s .state };
+      rows = getD w 0 0;
+      cols = getD w 1 0;
+      params = paramsOf (getD w 2 0) (getD w 3 0);
+      clock = clockOf (getD w 4 0) (getD w 5 0) (getD w 6 0) (getD w 7 0);
+      rounding = record { state = getD w 8 0 };
     }
 
-abbrev pub plainBy : MicroCm → (kind length epoch reading : ℕ) → PlainSketch
-plainBy k kind length epoch reading =
-    record {
-      rows = k .rows;
-      cols = k .cols;
-      t = k .params .t;
-      c = k .params .c;
-      kind = kind;
-      length = length;
-      epoch = epoch;
-      reading = reading;
-      state = k .rounding .state;
-    }
+-- and those of a sketch that begins: a count clock has no epoch, so it is 0
+abbrev pub wordsBy : MicroCm → (kind length epoch reading : ℕ) → List ℕ
+wordsBy k kind length epoch reading =
+    k .rows ∷ k .cols ∷ k .params .t ∷ k .params .c ∷ kind ∷ length ∷ epoch ∷ reading ∷ k .rounding .state ∷ []
 
-unfoldable pub plainWith : MicroCm → SubWindowClock → PlainSketch
-plainWith k (CountBased length seen) = plainBy k 0 length 0 seen
-plainWith k (TimeBased length epoch now) = plainBy k 1 length epoch now
+unfoldable pub wordsWith : MicroCm → SubWindowClock → List ℕ
+wordsWith k (CountBased length seen) = wordsBy k 0 length 0 seen
+wordsWith k (TimeBased length epoch now) = wordsBy k 1 length epoch now
 
-abbrev pub plainOf : MicroCm → PlainSketch
-plainOf k = plainWith k (k .clock)
+abbrev pub wordsOf : MicroCm → List ℕ
+wordsOf k = wordsWith k (k .clock)
 
--- THE WATCHED CODES, number by number
-abbrev pub watchOf : PlainWatch → Watch
-watchOf w = record { count = w .count; rows = w .rows; reached = w .reached }
+-- WATCHED CODES are three words: how many, the rows of the sketch for which they were set, a bit for each that was reached
+unfoldable pub watchOf : List ℕ → Watch
+watchOf w = record { count = getD w 0 0; rows = getD w 1 0; reached = getD w 2 0 }
 
-abbrev pub plainWatch : Watch → PlainWatch
-plainWatch w = record { count = w .count; rows = w .rows; reached = w .reached }
+abbrev pub watchWords : Watch → List ℕ
+watchWords w = w .count ∷ w .rows ∷ w .reached ∷ []
 
--- A FRESH START OR A LOAD: the number, the index, the sketch and no codes
-abbrev pub startOf : ServiceAnswer → PlainStart
-startOf r =
-    record {
-      number = numberOf (r .verdict);
-      index = indexOf (r .verdict);
-      sketch = plainOf (r .service .sketch);
-      watch = plainWatch (r .service .watch);
-    }
+-- A CALL THAT CHANGES A SKETCH: accepted, it leaves the clock's reading and the random state in their places, and every other word
+-- as it was; it tells the index and the draws, and a word that is 0
+abbrev pub wordsAfter : List ℕ → SketchAnswer → List ℕ
+wordsAfter w a = whenAccepted (a .verdict) (set (set w 7 (readingOf (a .sketch .clock))) 8 (a .sketch .rounding .state)) w
 
-pub record StartOutcome : Type 0 where
-  pub answer : PlainStart
+abbrev pub changeOf : Verdict → ℕ → List ℕ
+changeOf v draws = indexOf v ∷ draws ∷ 0 ∷ []
+
+pub record Changed : Type 0 where
+  pub number : ℕ
+  pub sketch : List ℕ
+  pub grid : List ℕ
+  pub change : List ℕ
+
+abbrev pub changed : ℕ → List ℕ → List ℕ → List ℕ → Changed
+changed number sketch grid change = record { number = number; sketch = sketch; grid = grid; change = change }
+
+abbrev pub changedOf : List ℕ → SketchOutcome → Changed
+changedOf w o =
+    changed (numberOf (o .answer .verdict)) (wordsAfter w (o .answer)) (o .grid) (changeOf (o .answer .verdict) (o .answer .draws))
+
+-- A FRESH START OR A LOAD: accepted, it leaves the words of the sketch and those of no codes
+abbrev pub sketchAfter : List ℕ → ServiceAnswer → List ℕ
+sketchAfter w a = whenAccepted (a .verdict) (wordsOf (a .service .sketch)) w
+
+abbrev pub codesAfter : List ℕ → ServiceAnswer → List ℕ
+codesAfter p a = whenAccepted (a .verdict) (watchWords (a .service .watch)) p
+
+pub record Started : Type 0 where
+  pub number : ℕ
+  pub sketch : List ℕ
+  pub watch : List ℕ
   pub grid : List ℕ
 
-abbrev pub startOutcome : PlainStart → List ℕ → StartOutcome
-startOutcome r g = record { answer = r; grid = g }
+abbrev pub started : ℕ → List ℕ → List ℕ → List ℕ → Started
+started number sketch watch grid = record { number = number; sketch = sketch; watch = watch; grid = grid }
 
-abbrev pub startedOf : ServiceOutcome → StartOutcome
-startedOf o = startOutcome (startOf (o .answer)) (o .grid)
+abbrev pub startedOf : List ℕ → List ℕ → ServiceOutcome → Started
+startedOf w p o = started (numberOf (o .answer .verdict)) (sketchAfter w (o .answer)) (codesAfter p (o .answer)) (o .grid)
 
--- THE OUTCOME of a call that changes a sketch
-pub record PlainOutcome : Type 0 where
-  pub answer : PlainAnswer
-  pub grid : List ℕ
+-- and a load tells the index
+pub record Loaded : Type 0 where
+  pub start : Started
+  pub index : ℕ
 
-abbrev pub plainOutcome : PlainAnswer → List ℕ → PlainOutcome
-plainOutcome r g = record { answer = r; grid = g }
+abbrev pub loaded : Started → ℕ → Loaded
+loaded start index = record { start = start; index = index }
 
--- A CALL THAT CHANGES A SKETCH: if it is accepted the clock's reading and the random state are those that it left, and nothing else
--- of the sketch is changed; if it is refused all is as it came
-abbrev pub settingsOf : PlainSketch → PlainSettings
-settingsOf s =
-    record { rows = s .rows; cols = s .cols; t = s .t; c = s .c; kind = s .kind; length = s .length; epoch = s .epoch }
+abbrev pub loadedOf : List ℕ → List ℕ → ServiceOutcome → Loaded
+loadedOf w p o = loaded (startedOf w p o) (indexOf (o .answer .verdict))
 
-abbrev pub sketchWith : PlainSettings → ℕ → ℕ → PlainSketch
-sketchWith m reading state =
-    record {
-      rows = m .rows;
-      cols = m .cols;
-      t = m .t;
-      c = m .c;
-      kind = m .kind;
-      length = m .length;
-      epoch = m .epoch;
-      reading = reading;
-      state = state;
-    }
+-- A READING: over, under, linear, fraction as f64; the index, over and under as whole numbers
+abbrev pub figuresOf : ReadingAnswer → List Float
+figuresOf a = a .reading .over ∷ a .reading .under ∷ a .reading .linear ∷ a .reading .fraction ∷ []
 
-abbrev pub readingAfter : ℕ → SketchAnswer → ℕ
-readingAfter reading r = whenAccepted (r .verdict) (readingOf (r .sketch .clock)) reading
+abbrev pub itemsOf : ReadingAnswer → List ℕ
+itemsOf a = indexOf (a .verdict) ∷ a .over ∷ a .under ∷ []
 
-abbrev pub stateAfter : ℕ → SketchAnswer → ℕ
-stateAfter state r = whenAccepted (r .verdict) (r .sketch .rounding .state) state
+pub record Read : Type 0 where
+  pub number : ℕ
+  pub figures : List Float
+  pub items : List ℕ
 
-abbrev pub changedOf : PlainSettings → ℕ → ℕ → SketchAnswer → PlainAnswer
-changedOf m reading state r =
-    record {
-      number = numberOf (r .verdict);
-      draws = r .draws;
-      index = indexOf (r .verdict);
-      sketch = sketchWith m (readingAfter reading r) (stateAfter state r);
-    }
+abbrev pub read : ℕ → List Float → List ℕ → Read
+read number figures items = record { number = number; figures = figures; items = items }
 
-abbrev pub changeOf : PlainSketch → SketchOutcome → PlainOutcome
-changeOf s o = plainOutcome (changedOf (settingsOf s) (s .reading) (s .state) (o .answer)) (o .grid)
+abbrev pub readOf : ReadingAnswer → Read
+readOf a = read (numberOf (a .verdict)) (figuresOf a) (itemsOf a)
 
--- the same where the caller keeps the reading and the state, and hands them in by their places
-abbrev pub toldOf : SketchAnswer → PlainChange
-toldOf r = record { number = numberOf (r .verdict); draws = r .draws; index = indexOf (r .verdict) }
+-- ONE WHOLE NUMBER beside the verdict; where a cell can be unsound, behind the index
+pub record Valued : Type 0 where
+  pub number : ℕ
+  pub value : ℕ
 
-abbrev pub inPlace : PlainSettings → PlainChange → ℕ → ℕ → PlainAnswer
-inPlace m r reading state =
-    record { number = r .number; draws = r .draws; index = r .index; sketch = sketchWith m reading state }
+abbrev pub valued : ℕ → ℕ → Valued
+valued number value = record { number = number; value = value }
 
--- READINGS
-abbrev pub plainReading : ReadingAnswer → PlainReading
-plainReading r =
-    record {
-      number = numberOf (r .verdict);
-      index = indexOf (r .verdict);
-      over = r .reading .over;
-      under = r .reading .under;
-      linear = r .reading .linear;
-      fraction = r .reading .fraction;
-      «over_items» = r .over;
-      «under_items» = r .under;
-    }
+abbrev pub valueOf : Verdict → ℕ → Valued
+valueOf v value = valued (numberOf v) value
 
--- ONE WHOLE NUMBER, OR ONE FIGURE, beside the verdict
-abbrev pub valueOf : Verdict → ℕ → PlainNumber
-valueOf v n = record { number = numberOf v; index = indexOf v; value = n }
+pub record Told : Type 0 where
+  pub number : ℕ
+  pub told : List ℕ
 
-abbrev pub figureOf : Verdict → Float → PlainFigure
-figureOf v x = record { number = numberOf v; index = indexOf v; value = x }
+abbrev pub told : ℕ → List ℕ → Told
+told number words = record { number = number; told = words }
 
-abbrev pub meanOf : MeanAnswer → PlainNumber
-meanOf r = valueOf (r .verdict) (r .mean)
+abbrev pub toldOf : Verdict → ℕ → Told
+toldOf v value = told (numberOf v) (indexOf v ∷ value ∷ [])
 
-abbrev pub highestOf : HighestAnswer → PlainNumber
-highestOf r = valueOf (r .verdict) (r .zoom)
+-- THE AUDIT: the index of the first unsound cell and 1, or 0 and 0
+unfoldable pub foundOf : Finding → List ℕ
+foundOf Sound = 0 ∷ 0 ∷ []
+foundOf (Unsound j) = j ∷ 1 ∷ []
 
-abbrev pub storeLengthOf : LengthAnswer → PlainNumber
-storeLengthOf r = valueOf (r .verdict) (r .length)
-
-abbrev pub depthOf : LayoutAnswer → PlainNumber
-depthOf r = valueOf (r .verdict) (r .layout .depth)
-
-abbrev pub zoomOf : ZoomAnswer → PlainNumber
-zoomOf r = valueOf (r .verdict) (r .zoom)
-
-abbrev pub shutterOf : ShutterAnswer → PlainNumber
-shutterOf r = valueOf (r .verdict) (r .shutter)
-
-abbrev pub pixelOf : PixelAnswer → PlainFigure
-pixelOf r = figureOf (r .verdict) (r .items)
-
--- THE VERDICT ALONE
-abbrev pub verdictOf : Verdict → PlainVerdict
-verdictOf v = record { number = numberOf v; index = indexOf v }
-
--- THE AUDIT: 1 and the index of the first unsound cell, or 0
-unfoldable pub foundOf : Verdict → Finding → PlainAudit
-foundOf v Sound = record { number = numberOf v; unsound = 0; index = 0 }
-foundOf v (Unsound j) = record { number = numberOf v; unsound = 1; index = j }
-
-abbrev pub auditOf : AuditAnswer → PlainAudit
-auditOf r = foundOf (r .verdict) (r .audit)
+abbrev pub auditOf : AuditAnswer → Told
+auditOf a = told (numberOf (a .verdict)) (foundOf (a .audit))
 
 -- THE STORE
-pub record PlainSave : Type 0 where
-  pub answer : PlainVerdict
+pub record Saved : Type 0 where
+  pub number : ℕ
   pub store : List ℕ
+  pub index : ℕ
 
-abbrev pub plainSave : PlainVerdict → List ℕ → PlainSave
-plainSave r store = record { answer = r; store = store }
+abbrev pub saved : ℕ → List ℕ → ℕ → Saved
+saved number store index = record { number = number; store = store; index = index }
 
-abbrev pub saveOf : SaveOutcome → PlainSave
-saveOf o = plainSave (verdictOf (o .verdict)) (o .store)
+abbrev pub savedOf : SaveOutcome → Saved
+savedOf o = saved (numberOf (o .verdict)) (o .store) (indexOf (o .verdict))
 
--- WATCHED CODES
-abbrev pub watchedOf : WatchAnswer → PlainWatched
-watchedOf r = record { number = numberOf (r .verdict); index = indexOf (r .verdict); watch = plainWatch (r .watch) }
-
-pub record PlainSet : Type 0 where
-  pub answer : PlainWatched
+-- CODES SET AND ASKED AFTER
+pub record CodesSet : Type 0 where
+  pub number : ℕ
+  pub watch : List ℕ
   pub columns : List ℕ
   pub limits : List ℕ
 
-abbrev pub plainSet : PlainWatched → List ℕ → List ℕ → PlainSet
-plainSet r columns limits = record { answer = r; columns = columns; limits = limits }
+abbrev pub codesSet : ℕ → List ℕ → List ℕ → List ℕ → CodesSet
+codesSet number watch columns limits = record { number = number; watch = watch; columns = columns; limits = limits }
 
-abbrev pub setOf : SetOutcome → PlainSet
-setOf o = plainSet (watchedOf (o .answer)) (o .columns) (o .limits)
+abbrev pub codesSetOf : List ℕ → SetOutcome → CodesSet
+codesSetOf p o =
+    codesSet
+    (numberOf (o .answer .verdict))
+    (whenAccepted (o .answer .verdict) (watchWords (o .answer .watch)) p)
+    (o .columns)
+    (o .limits)
 
-abbrev pub askedOf : AskAnswer → PlainAsked
-askedOf r = record { number = numberOf (r .verdict); index = indexOf (r .verdict); listed = r .listed; watch = plainWatch (r .watch) }
-
-pub record PlainAsk : Type 0 where
-  pub answer : PlainAsked
+pub record CodesAsked : Type 0 where
+  pub number : ℕ
+  pub watch : List ℕ
   pub list : List ℕ
+  pub told : List ℕ
 
-abbrev pub plainAsk : PlainAsked → List ℕ → PlainAsk
-plainAsk r list = record { answer = r; list = list }
+abbrev pub codesAsked : ℕ → List ℕ → List ℕ → List ℕ → CodesAsked
+codesAsked number watch list words = record { number = number; watch = watch; list = list; told = words }
 
-abbrev pub askOf : AskOutcome → PlainAsk
-askOf o = plainAsk (askedOf (o .answer)) (o .list)
+abbrev pub codesAskedOf : List ℕ → AskOutcome → CodesAsked
+codesAskedOf p o =
+    codesAsked
+    (numberOf (o .answer .verdict))
+    (whenAccepted (o .answer .verdict) (watchWords (o .answer .watch)) p)
+    (o .list)
+    (indexOf (o .answer .verdict) ∷ o .answer .listed ∷ [])
 
--- ONE CELL
-abbrev pub paramsOf : ℕ → ℕ → MicroParams
-paramsOf t c = record { t = t; c = c }
+-- ONE CELL: the random state in its place; it tells what a sketch's call tells
+pub record Celled : Type 0 where
+  pub number : ℕ
+  pub cell : List ℕ
+  pub state : ℕ
+  pub change : List ℕ
 
-abbrev pub drawnOf : CellAnswer → PlainDrawn
-drawnOf r = record { number = numberOf (r .verdict); draws = r .draws; index = indexOf (r .verdict); state = r .rounding .state }
+abbrev pub celled : ℕ → List ℕ → ℕ → List ℕ → Celled
+celled number cell state change = record { number = number; cell = cell; state = state; change = change }
 
-pub record PlainCell : Type 0 where
-  pub answer : PlainDrawn
-  pub bytes : List ℕ
+abbrev pub celledOf : CellOutcome → Celled
+celledOf o =
+    celled
+    (numberOf (o .answer .verdict))
+    (o .bytes)
+    (o .answer .rounding .state)
+    (changeOf (o .answer .verdict) (o .answer .draws))
 
-abbrev pub plainCell : PlainDrawn → List ℕ → PlainCell
-plainCell r b = record { answer = r; bytes = b }
+pub record Pixel : Type 0 where
+  pub number : ℕ
+  pub items : Float
 
-abbrev pub cellOf : CellOutcome → PlainCell
-cellOf o = plainCell (drawnOf (o .answer)) (o .bytes)
+abbrev pub pixel : ℕ → Float → Pixel
+pixel number items = record { number = number; items = items }
+
+abbrev pub pixelOf : PixelAnswer → Pixel
+pixelOf a = pixel (numberOf (a .verdict)) (a .items)

@@ -1,4 +1,5 @@
-// The core's values as plain numbers, for the edge to C and Rust, and back. include/microscope.h declares the structs.
+// Words of 64 bits as the core's values, and back: a sketch and watched codes stand in words that the caller keeps.
+// include/microscope.h names them. A function that writes returns document 01's number, 0 if the call was accepted.
 use cell::CellAnswer;
 use cell::MicroParams;
 use clock::SubWindowClock;
@@ -14,145 +15,45 @@ use sketch::MicroCm;
 use sketch::ReadingAnswer;
 use sketch::SketchAnswer;
 ghost use mathlib.Core.Path.{_≡_};
-ghost use Rattle.refusal.specs.Refusals.{numberOf};
-ghost use Rattle.edge_values.specs.Edge.{clockOf, sketchOf, plainOf, watchOf, plainWatch, startOf, watchedOf, askedOf};
-ghost use Rattle.edge_values.specs.Edge.{settingsOf, sketchWith, readingAfter, stateAfter, toldOf, changedOf, inPlace};
-ghost use Rattle.edge_values.specs.Edge.{plainReading, valueOf, figureOf, verdictOf, auditOf, drawnOf};
+ghost use mathlib.Core.List.{[], _∷_};
+ghost use Rattle.refusal.specs.Refusals.{numberOf, indexOf, whenAccepted};
 ghost use Rattle.clock.specs.Clock.{readingOf};
+ghost use Rattle.edge_values.specs.Edge.{clockOf, baseOf, paramsOf, sketchOf, wordsOf, watchOf, watchWords};
+ghost use Rattle.edge_values.specs.Edge.{wordsAfter, changeOf, sketchAfter, codesAfter, figuresOf, itemsOf, foundOf};
 
-// A sketch as plain numbers. `kind` is 0 for a clock that counts items, 1 for one of time; `reading` is the items seen,
-// or the time now; `epoch` is looked at for a clock of time only.
-#[repr(C)]
-pub struct PlainSketch {
-    pub rows: usize,
-    pub cols: usize,
-    pub t: usize,
-    pub c: u32,
-    pub kind: u32,
-    pub length: u64,
-    pub epoch: u64,
-    pub reading: u64,
-    pub state: u64,
+pub fn number(verdict: Verdict) -> u64
+    ensures { λ r. ⌜ r ≡ numberOf verdict ⌝ }
+{
+    verdict.number() as u64
 }
 
-// What of a sketch no call changes: all but the clock's reading and the random state.
-#[repr(C)]
-pub struct PlainSettings {
-    pub rows: usize,
-    pub cols: usize,
-    pub t: usize,
-    pub c: u32,
-    pub kind: u32,
-    pub length: u64,
-    pub epoch: u64,
+fn index(verdict: Verdict) -> u64
+    ensures { λ r. ⌜ r ≡ indexOf verdict ⌝ }
+{
+    verdict.index() as u64
 }
 
-// What a call that may change the sketch gives: the sketch to go on with, as it came if the call was refused.
-#[repr(C)]
-pub struct PlainAnswer {
-    pub number: u64,
-    pub index: usize,
-    pub draws: u64,
-    pub sketch: PlainSketch,
+// No base needs more than 32 bits: 0 is refused by 2.
+pub fn base(c: u64) -> u32
+    ensures { λ r. ⌜ r ≡ baseOf c ⌝ }
+{
+    if c < 4294967296 {
+        return c as u32;
+    }
+    0
 }
 
-// The watched codes without their columns and limits, which stand in two arrays of the caller's: how many codes, the rows of
-// the sketch for which they were set, and a bit for each that was at its limit or above at the last asking.
-#[repr(C)]
-pub struct PlainWatch {
-    pub count: usize,
-    pub rows: usize,
-    pub reached: u64,
-}
-
-// What a fresh start or a load gives: the sketch, and no codes; all 0 if refused.
-#[repr(C)]
-pub struct PlainStart {
-    pub number: u64,
-    pub index: usize,
-    pub sketch: PlainSketch,
-    pub watch: PlainWatch,
-}
-
-// What setting a list of codes gives: the codes to go on with, as they came if the call was refused.
-#[repr(C)]
-pub struct PlainWatched {
-    pub number: u64,
-    pub index: usize,
-    pub watch: PlainWatch,
-}
-
-// What an asking gives: how many codes it listed, 0 if refused, and the codes to go on with, as they came if refused.
-#[repr(C)]
-pub struct PlainAsked {
-    pub number: u64,
-    pub index: usize,
-    pub listed: usize,
-    pub watch: PlainWatch,
-}
-
-// What a call tells that changes the reading and the random state where the caller keeps them.
-#[repr(C)]
-pub struct PlainChange {
-    pub number: u64,
-    pub index: usize,
-    pub draws: u64,
-}
-
-// One reading of a key; all 0 if refused.
-#[repr(C)]
-pub struct PlainReading {
-    pub number: u64,
-    pub index: usize,
-    pub over: f64,
-    pub under: f64,
-    pub linear: f64,
-    pub fraction: f64,
-    pub over_items: u64,
-    pub under_items: u64,
-}
-
-// A whole number; 0 if refused.
-#[repr(C)]
-pub struct PlainNumber {
-    pub number: u64,
-    pub index: usize,
-    pub value: u64,
-}
-
-// A figure; 0.0 if refused.
-#[repr(C)]
-pub struct PlainFigure {
-    pub number: u64,
-    pub index: usize,
-    pub value: f64,
-}
-
-#[repr(C)]
-pub struct PlainVerdict {
-    pub number: u64,
-    pub index: usize,
-}
-
-// What an audit found: `unsound` is 1 and `index` names the first unsound cell, or both are 0.
-#[repr(C)]
-pub struct PlainAudit {
-    pub number: u64,
-    pub unsound: u64,
-    pub index: usize,
-}
-
-// What a call that changes one cell gives: the random state to go on with, and how many draws it made.
-#[repr(C)]
-pub struct PlainDrawn {
-    pub number: u64,
-    pub index: usize,
-    pub draws: u64,
-    pub state: u64,
+pub fn params(t: u64, c: u64) -> MicroParams
+    ensures { λ r. ⌜ r ≡ paramsOf t c ⌝ }
+{
+    MicroParams {
+        t: t as usize,
+        c: base(c),
+    }
 }
 
 // A kind that is no kind gives a clock that every call refuses by 3.
-pub fn clock(kind: u32, length: u64, epoch: u64, reading: u64) -> SubWindowClock
+pub fn clock(kind: u64, length: u64, epoch: u64, reading: u64) -> SubWindowClock
     ensures { λ r. ⌜ r ≡ clockOf kind length epoch reading ⌝ }
 {
     if kind == 0 {
@@ -174,127 +75,83 @@ pub fn clock(kind: u32, length: u64, epoch: u64, reading: u64) -> SubWindowClock
     }
 }
 
-pub fn settings(plain: PlainSketch) -> PlainSettings
-    ensures { λ r. ⌜ r ≡ settingsOf plain ⌝ }
+pub fn sketch(words: &[u64; 9]) -> MicroCm
+    ensures { λ r. ⌜ r ≡ sketchOf (now (words .entry)) ⌝ }
 {
-    PlainSettings {
-        rows: plain.rows,
-        cols: plain.cols,
-        t: plain.t,
-        c: plain.c,
-        kind: plain.kind,
-        length: plain.length,
-        epoch: plain.epoch,
-    }
-}
-
-fn with(settings: PlainSettings, reading: u64, state: u64) -> PlainSketch
-    ensures { λ r. ⌜ r ≡ sketchWith settings reading state ⌝ }
-{
-    PlainSketch {
-        rows: settings.rows,
-        cols: settings.cols,
-        t: settings.t,
-        c: settings.c,
-        kind: settings.kind,
-        length: settings.length,
-        epoch: settings.epoch,
-        reading,
-        state,
-    }
-}
-
-pub fn core(plain: PlainSketch) -> MicroCm
-    ensures { λ r. ⌜ r ≡ sketchOf plain ⌝ }
-{
-    let params = MicroParams {
-        t: plain.t,
-        c: plain.c,
-    };
-    let clock = clock(plain.kind, plain.length, plain.epoch, plain.reading);
-    let rounding = Rounding { state: plain.state };
+    let rows = words[0] as usize;
+    let cols = words[1] as usize;
+    let params = params(words[2], words[3]);
+    let clock = clock(words[4], words[5], words[6], words[7]);
+    let state = words[8];
     MicroCm {
-        rows: plain.rows,
-        cols: plain.cols,
+        rows,
+        cols,
         params,
         clock,
-        rounding,
+        rounding: Rounding { state },
     }
 }
 
-pub fn core_with(settings: PlainSettings, reading: u64, state: u64) -> MicroCm
-    ensures { λ r. ⌜ r ≡ sketchOf (sketchWith settings reading state) ⌝ }
-{
-    core(with(settings, reading, state))
-}
-
-fn of_sketch(sketch: MicroCm) -> PlainSketch
-    ensures { λ r. ⌜ r ≡ plainOf sketch ⌝ }
+fn put_sketch(words: &mut [u64; 9], sketch: MicroCm)
+    ensures { λ _. ⌜ now (words .exit) ≡ wordsOf sketch ⌝ }
 {
     let params = sketch.params;
     let rounding = sketch.rounding;
     let clock = sketch.clock;
+    let rows = sketch.rows as u64;
+    let cols = sketch.cols as u64;
+    let t = params.t as u64;
+    let c = params.c as u64;
     match clock {
         SubWindowClock::CountBased {
             items_per_sub_window,
             seen,
-        } => {
-            PlainSketch {
-                rows: sketch.rows,
-                cols: sketch.cols,
-                t: params.t,
-                c: params.c,
-                kind: 0,
-                length: items_per_sub_window,
-                epoch: 0,
-                reading: seen,
-                state: rounding.state,
-            }
-        }
+        } => *words = [
+            rows,
+            cols,
+            t,
+            c,
+            0,
+            items_per_sub_window,
+            0,
+            seen,
+            rounding.state,
+        ],
         SubWindowClock::TimeBased {
             sub_window_len,
             epoch,
             now,
-        } => {
-            PlainSketch {
-                rows: sketch.rows,
-                cols: sketch.cols,
-                t: params.t,
-                c: params.c,
-                kind: 1,
-                length: sub_window_len,
-                epoch,
-                reading: now,
-                state: rounding.state,
-            }
-        }
+        } => *words = [
+            rows,
+            cols,
+            t,
+            c,
+            1,
+            sub_window_len,
+            epoch,
+            now,
+            rounding.state,
+        ],
     }
 }
 
-pub fn watch(plain: PlainWatch) -> Watch
-    ensures { λ r. ⌜ r ≡ watchOf plain ⌝ }
+pub fn watch(words: &[u64; 3]) -> Watch
+    ensures { λ r. ⌜ r ≡ watchOf (now (words .entry)) ⌝ }
 {
+    let count = words[0] as usize;
+    let rows = words[1] as usize;
+    let reached = words[2];
     Watch {
-        count: plain.count,
-        rows: plain.rows,
-        reached: plain.reached,
+        count,
+        rows,
+        reached,
     }
 }
 
-fn of_watch(watch: Watch) -> PlainWatch
-    ensures { λ r. ⌜ r ≡ plainWatch watch ⌝ }
+fn put_watch(words: &mut [u64; 3], watch: Watch)
+    ensures { λ _. ⌜ now (words .exit) ≡ watchWords watch ⌝ }
 {
-    PlainWatch {
-        count: watch.count,
-        rows: watch.rows,
-        reached: watch.reached,
-    }
-}
-
-fn number(verdict: Verdict) -> u64
-    ensures { λ r. ⌜ r ≡ numberOf verdict ⌝ }
-{
-    verdict.number() as u64
+    *words = [watch.count as u64, watch.rows as u64, watch.reached];
 }
 
 fn reading_in(clock: SubWindowClock) -> u64
@@ -306,172 +163,136 @@ fn reading_in(clock: SubWindowClock) -> u64
     }
 }
 
-fn change(answer: SketchAnswer) -> PlainChange
-    ensures { λ r. ⌜ r ≡ toldOf answer ⌝ }
+// What a call left, in its place. A refused call leaves the sketch as it is.
+pub fn changed(sketch: &mut [u64; 9], change: &mut [u64; 3], answer: SketchAnswer) -> u64
+    ensures { λ r. ⌜ (r ≡ numberOf (answer .verdict)) × (now (sketch .exit) ≡ wordsAfter (now (sketch .entry)) answer)
+        × (now (change .exit) ≡ changeOf (answer .verdict) (answer .draws)) ⌝ }
 {
     let verdict = answer.verdict;
-    PlainChange {
-        number: number(verdict),
-        index: verdict.index(),
-        draws: answer.draws,
+    *change = [index(verdict), answer.draws, 0];
+    if !verdict.accepted() {
+        return number(verdict);
     }
-}
-
-// Puts what a call left where the caller keeps it. A refused call leaves both as they are.
-pub fn put(reading: &mut u64, state: &mut u64, answer: SketchAnswer) -> PlainChange
-    ensures { λ r. ⌜ (r ≡ toldOf answer) × (now (reading .exit) ≡ readingAfter (now (reading .entry)) answer)
-        × (now (state .exit) ≡ stateAfter (now (state .entry)) answer) ⌝ }
-{
-    let told = change(answer);
-    let judged = answer.verdict;
-    if !judged.accepted() {
-        return told;
+    let core = answer.sketch;
+    let clock = core.clock;
+    let rounding = core.rounding;
+    let state = rounding.state;
+    sketch[7] = reading_in(clock);
+    // Most items draw nothing. A state that is not stored anew is not waited for by the next call.
+    if sketch[8] == state {
+        return number(verdict);
     }
-    let sketch = answer.sketch;
-    let clock = sketch.clock;
-    let rounding = sketch.rounding;
-    *reading = reading_in(clock);
-    *state = rounding.state;
-    told
+    sketch[8] = state;
+    number(verdict)
 }
 
-// The same as one answer.
-pub fn beside(change: PlainChange, settings: PlainSettings, reading: u64, state: u64) -> PlainAnswer
-    ensures { λ r. ⌜ r ≡ inPlace settings change reading state ⌝ }
-{
-    PlainAnswer {
-        number: change.number,
-        index: change.index,
-        draws: change.draws,
-        sketch: with(settings, reading, state),
-    }
-}
-
-// What a call left, as one answer.
-pub fn changed(before: PlainSketch, answer: SketchAnswer) -> PlainAnswer
-    ensures { λ r. ⌜ r ≡ changedOf (settingsOf before) (before .reading) (before .state) answer ⌝ }
-{
-    let mut reading = before.reading;
-    let mut state = before.state;
-    let change = put(&mut reading, &mut state, answer);
-    beside(change, settings(before), reading, state)
-}
-
-// A start that was refused gives no sketch: every number of it is 0.
-pub fn started(answer: ServiceAnswer) -> PlainStart
-    ensures { λ r. ⌜ r ≡ startOf answer ⌝ }
+// A start that was refused leaves sketch and codes as they are.
+pub fn started(sketch: &mut [u64; 9], watch: &mut [u64; 3], answer: ServiceAnswer) -> u64
+    ensures { λ r. ⌜ (r ≡ numberOf (answer .verdict)) × (now (sketch .exit) ≡ sketchAfter (now (sketch .entry)) answer)
+        × (now (watch .exit) ≡ codesAfter (now (watch .entry)) answer) ⌝ }
 {
     let verdict = answer.verdict;
+    if !verdict.accepted() {
+        return number(verdict);
+    }
     let service = answer.service;
-    let sketch = service.sketch;
-    let watch = service.watch;
-    PlainStart {
-        number: number(verdict),
-        index: verdict.index(),
-        sketch: of_sketch(sketch),
-        watch: of_watch(watch),
-    }
+    put_sketch(sketch, service.sketch);
+    put_watch(watch, service.watch);
+    number(verdict)
 }
 
-pub fn watched(answer: WatchAnswer) -> PlainWatched
-    ensures { λ r. ⌜ r ≡ watchedOf answer ⌝ }
+// The verdict alone.
+pub fn indexed(at: &mut u64, verdict: Verdict) -> u64
+    ensures { λ r. ⌜ (r ≡ numberOf verdict) × (now (at .exit) ≡ indexOf verdict) ⌝ }
+{
+    *at = index(verdict);
+    number(verdict)
+}
+
+// The same as a start with the index, for a load.
+pub fn loaded(
+    sketch: &mut [u64; 9],
+    watch: &mut [u64; 3],
+    at: &mut u64,
+    answer: ServiceAnswer,
+) -> u64
+    ensures { λ r. ⌜ (r ≡ numberOf (answer .verdict)) × (now (sketch .exit) ≡ sketchAfter (now (sketch .entry)) answer)
+        × (now (watch .exit) ≡ codesAfter (now (watch .entry)) answer) × (now (at .exit) ≡ indexOf (answer .verdict)) ⌝ }
 {
     let verdict = answer.verdict;
-    let watch = answer.watch;
-    PlainWatched {
-        number: number(verdict),
-        index: verdict.index(),
-        watch: of_watch(watch),
-    }
+    *at = index(verdict);
+    started(sketch, watch, answer)
 }
 
-pub fn asked(answer: AskAnswer) -> PlainAsked
-    ensures { λ r. ⌜ r ≡ askedOf answer ⌝ }
+pub fn read(figures: &mut [f64; 4], items: &mut [u64; 3], answer: ReadingAnswer) -> u64
+    ensures { λ r. ⌜ (r ≡ numberOf (answer .verdict)) × (now (figures .exit) ≡ figuresOf answer) × (now (items .exit) ≡ itemsOf answer) ⌝ }
 {
     let verdict = answer.verdict;
-    let watch = answer.watch;
-    PlainAsked {
-        number: number(verdict),
-        index: verdict.index(),
-        listed: answer.listed,
-        watch: of_watch(watch),
-    }
+    let figure = answer.reading;
+    *figures = [figure.over, figure.under, figure.linear, figure.fraction];
+    *items = [index(verdict), answer.over, answer.under];
+    number(verdict)
 }
 
-pub fn reading(answer: ReadingAnswer) -> PlainReading
-    ensures { λ r. ⌜ r ≡ plainReading answer ⌝ }
+// A value behind the index.
+pub fn told(words: &mut [u64; 2], verdict: Verdict, value: u64) -> u64
+    ensures { λ r. ⌜ (r ≡ numberOf verdict) × (now (words .exit) ≡ indexOf verdict ∷ value ∷ []) ⌝ }
 {
-    let verdict = answer.verdict;
-    let figures = answer.reading;
-    PlainReading {
-        number: number(verdict),
-        index: verdict.index(),
-        over: figures.over,
-        under: figures.under,
-        linear: figures.linear,
-        fraction: figures.fraction,
-        over_items: answer.over,
-        under_items: answer.under,
-    }
+    *words = [index(verdict), value];
+    number(verdict)
 }
 
-pub fn value(verdict: Verdict, value: u64) -> PlainNumber
-    ensures { λ r. ⌜ r ≡ valueOf verdict value ⌝ }
-{
-    PlainNumber {
-        number: number(verdict),
-        index: verdict.index(),
-        value,
-    }
-}
-
-pub fn figure(verdict: Verdict, value: f64) -> PlainFigure
-    ensures { λ r. ⌜ r ≡ figureOf verdict value ⌝ }
-{
-    PlainFigure {
-        number: number(verdict),
-        index: verdict.index(),
-        value,
-    }
-}
-
-pub fn told(verdict: Verdict) -> PlainVerdict
-    ensures { λ r. ⌜ r ≡ verdictOf verdict ⌝ }
-{
-    PlainVerdict {
-        number: number(verdict),
-        index: verdict.index(),
-    }
-}
-
-pub fn found(answer: AuditAnswer) -> PlainAudit
-    ensures { λ r. ⌜ r ≡ auditOf answer ⌝ }
+pub fn found(words: &mut [u64; 2], answer: AuditAnswer) -> u64
+    ensures { λ r. ⌜ (r ≡ numberOf (answer .verdict)) × (now (words .exit) ≡ foundOf (answer .audit)) ⌝ }
 {
     let verdict = answer.verdict;
     let audit = answer.audit;
+    let judged = number(verdict);
     match audit {
-        Finding::Sound => PlainAudit {
-            number: number(verdict),
-            unsound: 0,
-            index: 0,
-        },
-        Finding::Unsound(index) => PlainAudit {
-            number: number(verdict),
-            unsound: 1,
-            index,
-        },
+        Finding::Sound => {
+            *words = [0, 0];
+            judged
+        }
+        Finding::Unsound(at) => {
+            *words = [at as u64, 1];
+            judged
+        }
     }
 }
 
-pub fn drawn(answer: CellAnswer) -> PlainDrawn
-    ensures { λ r. ⌜ r ≡ drawnOf answer ⌝ }
+pub fn codes_set(watch: &mut [u64; 3], answer: WatchAnswer) -> u64
+    ensures { λ r. ⌜ (r ≡ numberOf (answer .verdict))
+        × (now (watch .exit) ≡ whenAccepted (answer .verdict) (watchWords (answer .watch)) (now (watch .entry))) ⌝ }
+{
+    let verdict = answer.verdict;
+    if !verdict.accepted() {
+        return number(verdict);
+    }
+    put_watch(watch, answer.watch);
+    number(verdict)
+}
+
+pub fn codes_asked(watch: &mut [u64; 3], words: &mut [u64; 2], answer: AskAnswer) -> u64
+    ensures { λ r. ⌜ (r ≡ numberOf (answer .verdict))
+        × (now (watch .exit) ≡ whenAccepted (answer .verdict) (watchWords (answer .watch)) (now (watch .entry)))
+        × (now (words .exit) ≡ indexOf (answer .verdict) ∷ answer .listed ∷ []) ⌝ }
+{
+    let verdict = answer.verdict;
+    *words = [index(verdict), answer.listed as u64];
+    if !verdict.accepted() {
+        return number(verdict);
+    }
+    put_watch(watch, answer.watch);
+    number(verdict)
+}
+
+pub fn drawn(state: &mut u64, change: &mut [u64; 3], answer: CellAnswer) -> u64
+    ensures { λ r. ⌜ (r ≡ numberOf (answer .verdict)) × (now (state .exit) ≡ answer .rounding .state)
+        × (now (change .exit) ≡ changeOf (answer .verdict) (answer .draws)) ⌝ }
 {
     let verdict = answer.verdict;
     let rounding = answer.rounding;
-    PlainDrawn {
-        number: number(verdict),
-        index: verdict.index(),
-        draws: answer.draws as u64,
-        state: rounding.state,
-    }
+    *state = rounding.state;
+    *change = [index(verdict), answer.draws as u64, 0];
+    number(verdict)
 }

@@ -1,5 +1,5 @@
--- `clock`: one of two kinds, or none. Assumes nothing.
-use Rattle.edge_values.proofs.PlainLaws.{kind-count, kind-time, kind-none}
+-- `clock`. Assumes nothing.
+use Rattle.edge_values.proofs.WordsLaws.{kind-count, kind-time, kind-none}
 use borrow.Author.Needs.{needs}
 use Rattle.edge_values.proofs.clock.Statement.{statement}
 use Rattle.edge_values.proofs.clock.Tie as tie

@@ -1,8 +1,11 @@
--- `microscope_cell_enter_sub_window`: the cell's crossing. Assumes nothing.
-use Rattle.edge.proofs.EdgeLaws.{cell-told}
+-- `microscope_cell_enter_sub_window`. Assumes nothing.
+use Rattle.edge.proofs.EdgeLaws.{enter-put}
 use borrow.Author.Needs.{needs}
 use Rattle.edge.proofs.cells.microscope_cell_enter_sub_window.Statement.{statement}
 use Rattle.edge.proofs.cells.microscope_cell_enter_sub_window.Tie as tie
+
+params-requires : tie.Need-params-requires
+params-requires c κs = search needs
 
 enter-sub-window-requires : tie.Need-enter-sub-window-requires
 enter-sub-window-requires c κs = search needs
@@ -14,8 +17,9 @@ same-length : tie.Need-same-length
 same-length c = search needs
 
 returns : tie.Need-returns
-returns c = search (cell-told, needs)
+returns c = search (enter-put, needs)
 
 pub microscope-cell-enter-sub-window-spec : {M : Type 1} → statement M
 microscope-cell-enter-sub-window-spec =
-    tie.close (tie.spec enter-sub-window-requires drawn-requires same-length returns)
+    tie.close
+    (tie.spec params-requires enter-sub-window-requires drawn-requires same-length returns)

@@ -1,11 +1,11 @@
--- `microscope_audit`: the core's audit in plain numbers. Assumes nothing.
+-- `microscope_audit`. Assumes nothing.
 use Rattle.edge.proofs.EdgeLaws.{audit-told}
 use borrow.Author.Needs.{needs}
 use Rattle.edge.proofs.sketches.microscope_audit.Statement.{statement}
 use Rattle.edge.proofs.sketches.microscope_audit.Tie as tie
 
-core-requires : tie.Need-core-requires
-core-requires c κs = search needs
+sketch-requires : tie.Need-sketch-requires
+sketch-requires c κs = search needs
 
 audit-requires : tie.Need-audit-requires
 audit-requires c κs = search needs
@@ -17,4 +17,4 @@ returns : tie.Need-returns
 returns c = search (audit-told, needs)
 
 pub microscope-audit-spec : {M : Type 1} → statement M
-microscope-audit-spec = tie.close (tie.spec core-requires audit-requires found-requires returns)
+microscope-audit-spec = tie.close (tie.spec sketch-requires audit-requires found-requires returns)

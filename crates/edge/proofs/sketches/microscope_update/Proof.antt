@@ -1,30 +1,24 @@
--- `microscope_update`: the same call in place, on copies. Assumes nothing.
-use Rattle.edge.proofs.EdgeLaws.{update-told}
+-- `microscope_update`. Assumes nothing.
+use Rattle.edge.proofs.EdgeLaws.{update-put}
 use borrow.Author.Needs.{needs}
 use Rattle.edge.proofs.sketches.microscope_update.Statement.{statement}
 use Rattle.edge.proofs.sketches.microscope_update.Tie as tie
 
-settings-requires : tie.Need-settings-requires
-settings-requires c κs = search needs
+sketch-requires : tie.Need-sketch-requires
+sketch-requires c κs = search needs
 
-microscope-update-in-place-requires : tie.Need-microscope-update-in-place-requires
-microscope-update-in-place-requires c κs = search needs
+update-requires : tie.Need-update-requires
+update-requires c κs = search needs
 
-beside-requires : tie.Need-beside-requires
-beside-requires c κs = search needs
+changed-requires : tie.Need-changed-requires
+changed-requires c κs = search needs
 
 same-length : tie.Need-same-length
 same-length c = search needs
 
 returns : tie.Need-returns
-returns c = search (update-told, needs)
+returns c = search (update-put, needs)
 
 pub microscope-update-spec : {M : Type 1} → statement M
 microscope-update-spec =
-    tie.close
-    (tie.spec
-    settings-requires
-    microscope-update-in-place-requires
-    beside-requires
-    same-length
-    returns)
+    tie.close (tie.spec sketch-requires update-requires changed-requires same-length returns)

@@ -1,30 +1,24 @@
--- `microscope_update_at`: the same call in place, on copies. Assumes nothing.
-use Rattle.edge.proofs.EdgeLaws.{update-at-told}
+-- `microscope_update_at`. Assumes nothing.
+use Rattle.edge.proofs.EdgeLaws.{update-at-put}
 use borrow.Author.Needs.{needs}
 use Rattle.edge.proofs.sketches.microscope_update_at.Statement.{statement}
 use Rattle.edge.proofs.sketches.microscope_update_at.Tie as tie
 
-settings-requires : tie.Need-settings-requires
-settings-requires c κs = search needs
+sketch-requires : tie.Need-sketch-requires
+sketch-requires c κs = search needs
 
-microscope-update-at-in-place-requires : tie.Need-microscope-update-at-in-place-requires
-microscope-update-at-in-place-requires c κs = search needs
+update-at-requires : tie.Need-update-at-requires
+update-at-requires c κs = search needs
 
-beside-requires : tie.Need-beside-requires
-beside-requires c κs = search needs
+changed-requires : tie.Need-changed-requires
+changed-requires c κs = search needs
 
 same-length : tie.Need-same-length
 same-length c = search needs
 
 returns : tie.Need-returns
-returns c = search (update-at-told, needs)
+returns c = search (update-at-put, needs)
 
 pub microscope-update-at-spec : {M : Type 1} → statement M
 microscope-update-at-spec =
-    tie.close
-    (tie.spec
-    settings-requires
-    microscope-update-at-in-place-requires
-    beside-requires
-    same-length
-    returns)
+    tie.close (tie.spec sketch-requires update-at-requires changed-requires same-length returns)

@@ -1,11 +1,11 @@
--- `microscope_ask`: the core's asking in plain numbers. Assumes nothing.
+-- `microscope_ask`. Assumes nothing.
 use Rattle.edge.proofs.EdgeLaws.{ask-told}
 use borrow.Author.Needs.{needs}
 use Rattle.edge.proofs.watched.microscope_ask.Statement.{statement}
 use Rattle.edge.proofs.watched.microscope_ask.Tie as tie
 
-core-requires : tie.Need-core-requires
-core-requires c κs = search needs
+sketch-requires : tie.Need-sketch-requires
+sketch-requires c κs = search needs
 
 watch-requires : tie.Need-watch-requires
 watch-requires c κs = search needs
@@ -13,8 +13,8 @@ watch-requires c κs = search needs
 ask-requires : tie.Need-ask-requires
 ask-requires c κs = search needs
 
-asked-requires : tie.Need-asked-requires
-asked-requires c κs = search needs
+codes-asked-requires : tie.Need-codes-asked-requires
+codes-asked-requires c κs = search needs
 
 same-length : tie.Need-same-length
 same-length c = search needs
@@ -25,4 +25,4 @@ returns c = search (ask-told, needs)
 pub microscope-ask-spec : {M : Type 1} → statement M
 microscope-ask-spec =
     tie.close
-    (tie.spec core-requires watch-requires ask-requires asked-requires same-length returns)
+    (tie.spec sketch-requires watch-requires ask-requires codes-asked-requires same-length returns)
