@@ -23,6 +23,8 @@ use Rattle.sketch.specs.Refusals.{SketchOutcome, sketchOutcome, updateCall, upd
 use Rattle.sketch.specs.Refusals.{readCall, readWithCall, meanCall, bucketVerdict, highestCall, auditCall}
 use Rattle.store.specs.declared.LengthAnswer.{LengthAnswer}
 use Rattle.store.specs.Refusals.{saveOutcome, lengthCall, saveCall}
+use Rattle.store_shape.specs.declared.ShapeAnswer.{ShapeAnswer}
+use Rattle.store_shape.specs.Shape.{shapeCall}
 use Rattle.codes.specs.declared.Watch.{Watch}
 use Rattle.codes.specs.declared.WatchAnswer.{WatchAnswer}
 use Rattle.codes.specs.declared.AskAnswer.{AskAnswer}
@@ -31,9 +33,9 @@ use Rattle.service.specs.declared.ServiceAnswer.{ServiceAnswer}
 use Rattle.service.specs.Service.{ServiceOutcome, serviceOutcome, startCall, loadCall}
 use Rattle.edge_values.specs.Edge.{clockOf, baseOf, paramsOf, sketchOf, watchOf, watchWords, wordsAfter, changeOf, changed, changedOf}
 use Rattle.edge_values.specs.Edge.{sketchAfter, codesAfter, started, startedOf, loaded, loadedOf, figuresOf, itemsOf, read, readOf}
-use Rattle.edge_values.specs.Edge.{valued, told, foundOf, saved, savedOf, codesSet, codesSetOf, codesAsked, codesAskedOf, celled, celledOf, pixel}
+use Rattle.edge_values.specs.Edge.{valued, told, foundOf, shapeWords, saved, savedOf, codesSet, codesSetOf, codesAsked, codesAskedOf, celled, celledOf, pixel}
 use Rattle.edge.specs.Calls.{startedWith, loadedFrom, updated, updatedAt, advanced, merged, estimated, estimatedWith, meanTold, highestTold, audited}
-use Rattle.edge.specs.Calls.{storeLengthTold, savedAs, codesSetBy, codesAskedBy, depthTold, baseTold, zoomTold, shutterTold, pixelTold}
+use Rattle.edge.specs.Calls.{storeLengthTold, savedAs, shapeTold, codesSetBy, codesAskedBy, depthTold, baseTold, zoomTold, shutterTold, pixelTold}
 use Rattle.edge.specs.Calls.{inserted, entered, cellsMerged}
 
 -- CALLS THAT CHANGE A SKETCH
@@ -133,6 +135,10 @@ module _ (w : List ℕ) (k : MicroCm) (ek : k ≡ sketchOf w) (r : ℕ) where
         let q : askOutcome a list' ≡ askCall (sketchOf w) (watchOf p) columns limits g list = e ∙ rw (ek, ew) in
         rw (left .0, left .1, left .2) (ap (codesAskedOf p) q)
 
+pub shape-told : (store : List ℕ) (a : ShapeAnswer) (r : ℕ) (l : List ℕ) → a ≡ shapeCall store
+    → (r ≡ numberOf (a .verdict)) × (l ≡ shapeWords a) → told r l ≡ shapeTold store
+shape-told store a r l e left = rw (left .0, left .1, e) refl
+
 -- ONE CELL
 module _ (r : ℕ) where
   pub base-told : (c base : ℕ) (a : ZoomAnswer) → base ≡ baseOf c → a ≡ cells.maxZoomCall base → r ≡ numberOf (a .verdict)
@@ -143,7 +149,8 @@ module _ (r : ℕ) where
     pub depth-told : (a : LayoutAnswer) → a ≡ cells.layoutCall params → r ≡ numberOf (a .verdict) → valued r (a .layout .depth) ≡ depthTold t c
     depth-told a e er = rw (er, e, ep) refl
 
-    pub check-told : (b : List ℕ) (v : Verdict) → v ≡ cells.cellVerdict params b → r ≡ numberOf v → r ≡ numberOf (cells.cellVerdict (paramsOf t c) b)
+    pub check-told : (b : List ℕ) (v : Verdict) → v ≡ cells.cellVerdict params b → r ≡ numberOf v
+        → r ≡ numberOf (cells.cellVerdict (paramsOf t c) b)
     check-told b v e er = er ∙ rw (e, ep)
 
     pub zoom-told : (b : List ℕ) (a : ZoomAnswer) → a ≡ cells.zoomCall params b → r ≡ numberOf (a .verdict) → valued r (a .zoom) ≡ zoomTold t c b

@@ -6,10 +6,11 @@ use lib.Ieee.{Float}
 use Rattle.cell.specs.Refusals as cells
 use Rattle.sketch.specs.Refusals.{updateCall, updateAtCall, advanceCall, mergeCall, readCall, readWithCall, meanCall, highestCall, auditCall}
 use Rattle.store.specs.Refusals.{lengthCall, saveCall}
+use Rattle.store_shape.specs.Shape.{shapeCall}
 use Rattle.codes.specs.Refusals.{setCall, askCall}
 use Rattle.service.specs.Service.{startCall, loadCall}
 use Rattle.edge_values.specs.Edge.{clockOf, baseOf, paramsOf, sketchOf, watchOf, Changed, changedOf, Started, startedOf, Loaded, loadedOf}
-use Rattle.edge_values.specs.Edge.{Read, readOf, Valued, valueOf, Told, toldOf, auditOf, Saved, savedOf, CodesSet, codesSetOf, CodesAsked, codesAskedOf}
+use Rattle.edge_values.specs.Edge.{Read, readOf, Valued, valueOf, Told, toldOf, auditOf, shapeOf, Saved, savedOf, CodesSet, codesSetOf, CodesAsked, codesAskedOf}
 use Rattle.edge_values.specs.Edge.{Celled, celledOf, Pixel, pixelOf}
 
 -- the second form of the edge, as MICROSCOPE_VERSION in the header: 10,000 × 2
@@ -59,6 +60,9 @@ storeLengthTold w = let a = lengthCall (sketchOf w) in valueOf (a .verdict) (a .
 
 abbrev pub savedAs : (w g store : List ℕ) → Saved
 savedAs w g store = savedOf (saveCall (sketchOf w) g store)
+
+abbrev pub shapeTold : List ℕ → Told
+shapeTold store = shapeOf (shapeCall store)
 
 -- WATCHED CODES: those to watch from now on, and those that have newly reached their limit
 abbrev pub codesSetBy : (w p columns limits kept kept-limits : List ℕ) → CodesSet

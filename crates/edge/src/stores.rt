@@ -1,7 +1,7 @@
 // The calls on a store. The buffers are the caller's.
 ghost use mathlib.Core.Path.{_≡_};
-ghost use Rattle.edge_values.specs.Edge.{started, loaded, valued, saved};
-ghost use Rattle.edge.specs.Calls.{storeLengthTold, savedAs, loadedFrom};
+ghost use Rattle.edge_values.specs.Edge.{started, loaded, valued, told, saved};
+ghost use Rattle.edge.specs.Calls.{storeLengthTold, savedAs, loadedFrom, shapeTold};
 
 // How many bytes a sketch's store takes.
 #[no_mangle]
@@ -45,4 +45,13 @@ pub extern "C" fn microscope_load(
 {
     let answer = service::load(grid, store);
     edge_values::loaded(sketch, watch, index, answer)
+}
+
+// Which sketch a store of unknown origin holds, and how long a grid to lend for a load of it.
+#[no_mangle]
+pub extern "C" fn microscope_store_shape(store: &[u8], shape: &mut [u64; 5]) -> u64
+    ensures { λ r. ⌜ told r (now (shape .exit)) ≡ shapeTold (now (store .entry)) ⌝ }
+{
+    let answer = store_shape::shape(store);
+    edge_values::shaped(shape, answer)
 }

@@ -22,6 +22,7 @@ use Rattle.sketch.specs.declared.Finding.{Finding}
 use Rattle.sketch.specs.declared.Finding.the-variants.{Sound, Unsound}
 use Rattle.sketch.specs.Refusals.{SketchOutcome}
 use Rattle.store.specs.Refusals.{SaveOutcome}
+use Rattle.store_shape.specs.declared.ShapeAnswer.{ShapeAnswer}
 use Rattle.codes.specs.declared.Watch.{Watch}
 use Rattle.codes.specs.Refusals.{SetOutcome, AskOutcome}
 use Rattle.service.specs.declared.ServiceAnswer.{ServiceAnswer}
@@ -177,6 +178,13 @@ saved number store index = record { number = number; store = store; index = inde
 
 abbrev pub savedOf : SaveOutcome → Saved
 savedOf o = saved (numberOf (o .verdict)) (o .store) (indexOf (o .verdict))
+
+-- a store's shape: rows, cols, t, c, the bytes of the grid
+abbrev pub shapeWords : ShapeAnswer → List ℕ
+shapeWords a = a .rows ∷ a .cols ∷ a .t ∷ a .c ∷ a .«grid_bytes» ∷ []
+
+abbrev pub shapeOf : ShapeAnswer → Told
+shapeOf a = told (numberOf (a .verdict)) (shapeWords a)
 
 -- CODES SET AND ASKED AFTER
 pub record CodesSet : Type 0 where

@@ -14,12 +14,13 @@ use sketch::Finding;
 use sketch::MicroCm;
 use sketch::ReadingAnswer;
 use sketch::SketchAnswer;
+use store_shape::ShapeAnswer;
 ghost use mathlib.Core.Path.{_≡_};
 ghost use mathlib.Core.List.{[], _∷_};
 ghost use Rattle.refusal.specs.Refusals.{numberOf, indexOf, whenAccepted};
 ghost use Rattle.clock.specs.Clock.{readingOf};
 ghost use Rattle.edge_values.specs.Edge.{clockOf, baseOf, paramsOf, sketchOf, wordsOf, watchOf, watchWords};
-ghost use Rattle.edge_values.specs.Edge.{wordsAfter, changeOf, sketchAfter, codesAfter, figuresOf, itemsOf, foundOf};
+ghost use Rattle.edge_values.specs.Edge.{wordsAfter, changeOf, sketchAfter, codesAfter, figuresOf, itemsOf, foundOf, shapeWords};
 
 pub fn number(verdict: Verdict) -> u64
     ensures { λ r. ⌜ r ≡ numberOf verdict ⌝ }
@@ -258,6 +259,22 @@ pub fn found(words: &mut [u64; 2], answer: AuditAnswer) -> u64
             judged
         }
     }
+}
+
+pub fn shaped(words: &mut [u64; 5], answer: ShapeAnswer) -> u64
+    ensures { λ r. ⌜ (r ≡ numberOf (answer .verdict)) × (now (words .exit) ≡ shapeWords answer) ⌝ }
+{
+    let verdict = answer.verdict;
+    let rows = answer.rows as u64;
+    let cols = answer.cols as u64;
+    *words = [
+        rows,
+        cols,
+        answer.t as u64,
+        answer.c as u64,
+        answer.grid_bytes as u64,
+    ];
+    number(verdict)
 }
 
 pub fn codes_set(watch: &mut [u64; 3], answer: WatchAnswer) -> u64

@@ -71,7 +71,7 @@ module _ (g store : List ℕ) where
       }
 
   module _ (l : Loadable g store) where
-    header-accepted : headerVerdict (headerPayload store) ≡ Accepted
+    pub header-accepted : headerVerdict (headerPayload store) ≡ Accepted
     header-accepted = rw (l .form) (l .good)
 
     pub loadable-accepted : loadVerdict g store ≡ Accepted

@@ -1,7 +1,7 @@
 // Document 01, "Audit and block store": a sketch and its grid in blocks of 512 bytes.
 //
 // A store is what is written before the key is turned off: block 0 holds the sketch, the blocks behind it the grid.
-mod judge;
+pub mod judge;
 
 use refusal::Verdict;
 use sketch::MicroCm;

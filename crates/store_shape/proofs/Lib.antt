@@ -1,0 +1,2 @@
+pub mod ShapeWork
+pub mod Theorems
