@@ -90,7 +90,7 @@ pub extern "C" fn microscope_cell_insert(
 {
     let rounding = Rounding { state: *state };
     let answer = cell_insertion::insert(cell, edge_values::params(t, c), n, rounding);
-    edge_values::drawn(state, change, answer)
+    edge_answers::drawn(state, change, answer)
 }
 
 // Moves a cell into sub-window new_n, `crossed` sub-windows on.
@@ -110,7 +110,7 @@ pub extern "C" fn microscope_cell_enter_sub_window(
     let rounding = Rounding { state: *state };
     let params = edge_values::params(t, c);
     let answer = cell_crossing::enter_sub_window(cell, params, new_n, crossed, rounding);
-    edge_values::drawn(state, change, answer)
+    edge_answers::drawn(state, change, answer)
 }
 
 // Adds the counts of src to those of dst, as they are at sub-window n. src is only read.
@@ -129,5 +129,5 @@ pub extern "C" fn microscope_cell_merge(
 {
     let rounding = Rounding { state: *state };
     let answer = cell_merging::merge_cells(dst, src, edge_values::params(t, c), n, rounding);
-    edge_values::drawn(state, change, answer)
+    edge_answers::drawn(state, change, answer)
 }

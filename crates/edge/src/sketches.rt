@@ -28,7 +28,7 @@ pub extern "C" fn microscope_new(
     let params = edge_values::params(t, c);
     let clock = edge_values::clock(kind, length, epoch, epoch);
     let answer = Service::with_dimensions(rows as usize, cols as usize, params, clock, seed, grid);
-    edge_values::started(sketch, watch, answer)
+    edge_answers::started(sketch, watch, answer)
 }
 
 // One item on a clock that counts items.
@@ -44,7 +44,7 @@ pub extern "C" fn microscope_update(
 {
     let core = edge_values::sketch(sketch);
     let answer = sketch_counting::update(core, &key[..], grid);
-    edge_values::changed(sketch, change, answer)
+    edge_answers::changed(sketch, change, answer)
 }
 
 // One item on a clock of time.
@@ -61,7 +61,7 @@ pub extern "C" fn microscope_update_at(
 {
     let core = edge_values::sketch(sketch);
     let answer = sketch_counting::update_at(core, &key[..], timestamp, grid);
-    edge_values::changed(sketch, change, answer)
+    edge_answers::changed(sketch, change, answer)
 }
 
 // Time passes without an item.
@@ -77,7 +77,7 @@ pub extern "C" fn microscope_advance_to(
 {
     let core = edge_values::sketch(sketch);
     let answer = sketch_counting::advance_to(core, timestamp, grid);
-    edge_values::changed(sketch, change, answer)
+    edge_answers::changed(sketch, change, answer)
 }
 
 // The counts of another sketch added to this one's. The other grid is only read.
@@ -95,7 +95,7 @@ pub extern "C" fn microscope_merge(
     let core = edge_values::sketch(sketch);
     let others = edge_values::sketch(other);
     let answer = sketch_merging::merge(core, grid, others, other_grid);
-    edge_values::changed(sketch, change, answer)
+    edge_answers::changed(sketch, change, answer)
 }
 
 // The figures of a key, with the clock's fraction.
@@ -112,7 +112,7 @@ pub extern "C" fn microscope_estimate(
 {
     let core = edge_values::sketch(sketch);
     let answer = sketch_reading::estimate(core, key, grid);
-    edge_values::read(figures, items, answer)
+    edge_answers::read(figures, items, answer)
 }
 
 // The same with a given fraction.
@@ -130,7 +130,7 @@ pub extern "C" fn microscope_estimate_with(
 {
     let core = edge_values::sketch(sketch);
     let answer = sketch_reading::estimate_with(core, key, fraction, grid);
-    edge_values::read(figures, items, answer)
+    edge_answers::read(figures, items, answer)
 }
 
 // Items a sub-window: Under divided by t, rounded down.
@@ -146,7 +146,7 @@ pub extern "C" fn microscope_mean(
     let core = edge_values::sketch(sketch);
     let answer = sketch_reading::mean(core, key, grid);
     let verdict = answer.verdict;
-    edge_values::told(mean, verdict, answer.mean)
+    edge_answers::told(mean, verdict, answer.mean)
 }
 
 // Whether there is a cell at this row and column: its bytes are the `depth` bytes from
@@ -168,7 +168,7 @@ pub extern "C" fn microscope_max_zoom(sketch: &[u64; 9], grid: &[u8], zoom: &mut
     let core = edge_values::sketch(sketch);
     let answer = sketch_queries::max_zoom(core, grid);
     let verdict = answer.verdict;
-    edge_values::told(zoom, verdict, answer.zoom as u64)
+    edge_answers::told(zoom, verdict, answer.zoom as u64)
 }
 
 // Whether every cell is sound, or the first that is not.
@@ -178,5 +178,5 @@ pub extern "C" fn microscope_audit(sketch: &[u64; 9], grid: &[u8], found: &mut [
 {
     let core = edge_values::sketch(sketch);
     let answer = sketch_queries::audit(core, grid);
-    edge_values::found(found, answer)
+    edge_answers::found(found, answer)
 }

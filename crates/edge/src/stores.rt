@@ -28,7 +28,7 @@ pub extern "C" fn microscope_save(
 {
     let core = edge_values::sketch(sketch);
     let verdict = store::save(store, core, grid);
-    edge_values::indexed(index, verdict)
+    edge_answers::indexed(index, verdict)
 }
 
 // The sketch of a store, its grid, and no codes; all as it was if refused.
@@ -44,7 +44,7 @@ pub extern "C" fn microscope_load(
         ≡ loadedFrom (now (sketch .entry)) (now (watch .entry)) (now (grid .entry)) (now (store .entry)) ⌝ }
 {
     let answer = service::load(grid, store);
-    edge_values::loaded(sketch, watch, index, answer)
+    edge_answers::loaded(sketch, watch, index, answer)
 }
 
 // Which sketch a store of unknown origin holds, and how long a grid to lend for a load of it.
@@ -53,5 +53,5 @@ pub extern "C" fn microscope_store_shape(store: &[u8], shape: &mut [u64; 5]) -> 
     ensures { λ r. ⌜ told r (now (shape .exit)) ≡ shapeTold (now (store .entry)) ⌝ }
 {
     let answer = store_shape::shape(store);
-    edge_values::shaped(shape, answer)
+    edge_answers::shaped(shape, answer)
 }

@@ -21,7 +21,7 @@ pub extern "C" fn microscope_set_codes(
     let core = edge_values::sketch(sketch);
     let before = edge_values::watch(watch);
     let answer = codes_setting::set_codes(core, before, columns, limits, kept_columns, kept_limits);
-    edge_values::codes_set(watch, answer)
+    edge_answers::codes_set(watch, answer)
 }
 
 // The codes that have newly reached their limit.
@@ -42,5 +42,5 @@ pub extern "C" fn microscope_ask(
     let core = edge_values::sketch(sketch);
     let before = edge_values::watch(watch);
     let answer = codes_asking::ask(core, before, kept_columns, kept_limits, grid, list);
-    edge_values::codes_asked(watch, asked, answer)
+    edge_answers::codes_asked(watch, asked, answer)
 }

@@ -1,8 +1,11 @@
--- `started`. Assumes nothing.
-use Rattle.edge_values.proofs.WordsLaws.{left, put}
+-- `codes_asked`. Assumes nothing.
+use Rattle.edge_answers.proofs.AnswerLaws.{left, put}
 use borrow.Author.Needs.{needs}
-use Rattle.edge_values.proofs.started.Statement.{statement}
-use Rattle.edge_values.proofs.started.Tie as tie
+use Rattle.edge_answers.proofs.codes_asked.Statement.{statement}
+use Rattle.edge_answers.proofs.codes_asked.Tie as tie
+
+index-requires : tie.Need-index-requires
+index-requires c κs = search needs
 
 accepted-requires : tie.Need-accepted-requires
 accepted-requires c κs = search needs
@@ -13,9 +16,6 @@ number-requires c κs = search needs
 returns : tie.Need-returns
 returns c = search (left, needs)
 
-put-sketch-requires : tie.Need-put-sketch-requires
-put-sketch-requires c κs = search needs
-
 put-watch-requires : tie.Need-put-watch-requires
 put-watch-requires c κs = search needs
 
@@ -25,14 +25,14 @@ number-requires-2 c κs = search needs
 returns-2 : tie.Need-returns-2
 returns-2 c = search (put, needs)
 
-pub started-spec : {M : Type 1} → statement M
-started-spec =
+pub codes-asked-spec : {M : Type 1} → statement M
+codes-asked-spec =
     tie.close
     (tie.spec
+    index-requires
     accepted-requires
     number-requires
     returns
-    put-sketch-requires
     put-watch-requires
     number-requires-2
     returns-2)

@@ -1,8 +1,8 @@
--- `codes_set`. Assumes nothing.
-use Rattle.edge_values.proofs.WordsLaws.{left, put}
+-- `started`. Assumes nothing.
+use Rattle.edge_answers.proofs.AnswerLaws.{left, put}
 use borrow.Author.Needs.{needs}
-use Rattle.edge_values.proofs.codes_set.Statement.{statement}
-use Rattle.edge_values.proofs.codes_set.Tie as tie
+use Rattle.edge_answers.proofs.started.Statement.{statement}
+use Rattle.edge_answers.proofs.started.Tie as tie
 
 accepted-requires : tie.Need-accepted-requires
 accepted-requires c κs = search needs
@@ -13,6 +13,9 @@ number-requires c κs = search needs
 returns : tie.Need-returns
 returns c = search (left, needs)
 
+put-sketch-requires : tie.Need-put-sketch-requires
+put-sketch-requires c κs = search needs
+
 put-watch-requires : tie.Need-put-watch-requires
 put-watch-requires c κs = search needs
 
@@ -22,13 +25,14 @@ number-requires-2 c κs = search needs
 returns-2 : tie.Need-returns-2
 returns-2 c = search (put, needs)
 
-pub codes-set-spec : {M : Type 1} → statement M
-codes-set-spec =
+pub started-spec : {M : Type 1} → statement M
+started-spec =
     tie.close
     (tie.spec
     accepted-requires
     number-requires
     returns
+    put-sketch-requires
     put-watch-requires
     number-requires-2
     returns-2)

@@ -1,8 +1,8 @@
 -- `found`. Assumes nothing.
-use Rattle.edge_values.proofs.WordsLaws.{found-none, found-one}
+use Rattle.edge_answers.proofs.AnswerLaws.{found-none, found-one}
 use borrow.Author.Needs.{needs}
-use Rattle.edge_values.proofs.found.Statement.{statement}
-use Rattle.edge_values.proofs.found.Tie as tie
+use Rattle.edge_answers.proofs.found.Statement.{statement}
+use Rattle.edge_answers.proofs.found.Tie as tie
 
 number-requires : tie.Need-number-requires
 number-requires c κs = search needs

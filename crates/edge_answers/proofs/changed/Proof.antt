@@ -1,17 +1,17 @@
 -- `changed`. Assumes nothing.
-use Rattle.edge_values.proofs.WordsLaws.{left, words-kept, words-put}
+use Rattle.edge_answers.proofs.AnswerLaws.{left, words-kept, words-put}
 use borrow.Author.Needs.{needs}
-use Rattle.edge_values.proofs.changed.Statement.{statement}
-use Rattle.edge_values.proofs.changed.Tie as tie
+use Rattle.edge_answers.proofs.changed.Statement.{statement}
+use Rattle.edge_answers.proofs.changed.Tie as tie
+
+number-requires : tie.Need-number-requires
+number-requires c κs = search needs
 
 index-requires : tie.Need-index-requires
 index-requires c κs = search needs
 
 accepted-requires : tie.Need-accepted-requires
 accepted-requires c κs = search needs
-
-number-requires : tie.Need-number-requires
-number-requires c κs = search needs
 
 returns : tie.Need-returns
 returns c = search (left, needs)
@@ -25,17 +25,11 @@ element-write-sketch c = search needs
 element-copy-out-if2 : tie.Need-element-copy-out-if2
 element-copy-out-if2 c = search needs
 
-number-requires-2 : tie.Need-number-requires-2
-number-requires-2 c κs = search needs
-
 returns-2 : tie.Need-returns-2
 returns-2 c = search (words-kept, needs)
 
 element-write-sketch-2 : tie.Need-element-write-sketch-2
 element-write-sketch-2 c = search needs
-
-number-requires-3 : tie.Need-number-requires-3
-number-requires-3 c κs = search needs
 
 returns-3 : tie.Need-returns-3
 returns-3 c = search (words-put, needs)
@@ -44,15 +38,13 @@ pub changed-spec : {M : Type 1} → statement M
 changed-spec =
     tie.close
     (tie.spec
+    number-requires
     index-requires
     accepted-requires
-    number-requires
     returns
     reading-in-requires
     element-write-sketch
     element-copy-out-if2
-    number-requires-2
     returns-2
     element-write-sketch-2
-    number-requires-3
     returns-3)

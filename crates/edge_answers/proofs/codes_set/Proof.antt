@@ -1,11 +1,8 @@
--- `codes_asked`. Assumes nothing.
-use Rattle.edge_values.proofs.WordsLaws.{left, put}
+-- `codes_set`. Assumes nothing.
+use Rattle.edge_answers.proofs.AnswerLaws.{left, put}
 use borrow.Author.Needs.{needs}
-use Rattle.edge_values.proofs.codes_asked.Statement.{statement}
-use Rattle.edge_values.proofs.codes_asked.Tie as tie
-
-index-requires : tie.Need-index-requires
-index-requires c κs = search needs
+use Rattle.edge_answers.proofs.codes_set.Statement.{statement}
+use Rattle.edge_answers.proofs.codes_set.Tie as tie
 
 accepted-requires : tie.Need-accepted-requires
 accepted-requires c κs = search needs
@@ -25,11 +22,10 @@ number-requires-2 c κs = search needs
 returns-2 : tie.Need-returns-2
 returns-2 c = search (put, needs)
 
-pub codes-asked-spec : {M : Type 1} → statement M
-codes-asked-spec =
+pub codes-set-spec : {M : Type 1} → statement M
+codes-set-spec =
     tie.close
     (tie.spec
-    index-requires
     accepted-requires
     number-requires
     returns
