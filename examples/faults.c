@@ -8,14 +8,13 @@
 #include <inttypes.h>
 #include <stdio.h>
 #include <stdlib.h>
-#include <string.h>
 
 #include "microscope.h"
 
 /* The last five minutes, by sub-windows of a minute; time stamps are in seconds. */
 enum { ROWS = 4, COLS = 64, T = 5, C = 2, MINUTE = 60 };
-enum { DEPTH = MICROSCOPE_DEPTH(T), GRID_BYTES = ROWS * COLS * DEPTH };
-enum { STORE_BYTES = 512 * (1 + (GRID_BYTES + 503) / 504) };
+enum { DEPTH = MICROSCOPE_DEPTH(T) };
+enum { GRID_BYTES = MICROSCOPE_GRID_BYTES(ROWS, COLS, T), STORE_BYTES = MICROSCOPE_STORE_BYTES(ROWS, COLS, T) };
 enum { EPOCH = 1000, SEED = 2023 };
 
 static const char *const CODES[] = {"P0301", "P0420", "P0171", "U0100", "C1201"};
@@ -38,15 +37,16 @@ enum { EVENT_COUNT = sizeof TRACE / sizeof TRACE[0] };
 /* When the reading is made: half a minute after the last event. */
 enum { READING_AT = 1372 };
 
-/* A sketch with the grid that belongs to it. */
+/* A sketch with all that belongs to it. It watches no codes; examples/limits.c does. */
 struct counter {
     microscope_sketch sketch;
+    microscope_watch watch;
     uint8_t grid[GRID_BYTES];
 };
 
 static void accepted(uint64_t number, const char *call) {
     if (number != MICROSCOPE_ACCEPTED) {
-        fprintf(stderr, "%s: refused by %" PRIu64 "\n", call, number);
+        fprintf(stderr, "%s: refused by %" PRIu64 ": %s\n", call, number, microscope_meaning(number));
         exit(1);
     }
 }
@@ -63,7 +63,7 @@ static void columns_of(const char *code, uint32_t key[ROWS]) {
 }
 
 static const uint8_t *cell_at(const struct counter *counter, size_t row, uint32_t col) {
-    accepted(microscope_bucket_check(counter->sketch, row, col, counter->grid, GRID_BYTES).number, "bucket_check");
+    accepted(microscope_bucket_check(&counter->sketch, row, col, counter->grid, GRID_BYTES), "bucket_check");
     return counter->grid + (row * COLS + col) * DEPTH;
 }
 
@@ -78,49 +78,40 @@ static uint64_t sub_window(const microscope_sketch *sketch) {
  */
 static void raise_peaks(const struct counter *counter, uint64_t peaks[CODE_COUNT]) {
     size_t pixel = sub_window(&counter->sketch) % (T + 2);
-    microscope_number top = microscope_base_max_zoom(C);
-    accepted(top.number, "base_max_zoom");
+    uint64_t top;
+    accepted(microscope_base_max_zoom(C, &top), "base_max_zoom");
     for (int code = 0; code < CODE_COUNT; code++) {
         uint32_t key[ROWS];
         columns_of(CODES[code], key);
         for (size_t row = 0; row < ROWS; row++) {
             const uint8_t *cell = cell_at(counter, row, key[row]);
-            microscope_number zoom = microscope_cell_zoom(cell, DEPTH, T, C);
-            accepted(zoom.number, "cell_zoom");
-            uint64_t held = zoom.value + (cell[pixel] == 255 && zoom.value < top.value);
+            uint64_t zoom;
+            accepted(microscope_cell_zoom(cell, DEPTH, T, C, &zoom), "cell_zoom");
+            uint64_t held = zoom + (cell[pixel] == 255 && zoom < top);
             peaks[code] = held > peaks[code] ? held : peaks[code];
         }
     }
 }
 
-/* What a fresh start or a load gave. It watches no codes; examples/limits.c does. */
-static void begin(struct counter *counter, microscope_start start, const char *call) {
-    accepted(start.number, call);
-    counter->sketch = start.sketch;
-}
-
 static void count(struct counter *counter, uint64_t peaks[CODE_COUNT]) {
+    microscope_change change;
     for (int event = 0; event < EVENT_COUNT; event++) {
         uint32_t key[ROWS];
         columns_of(CODES[TRACE[event].code], key);
         for (int time = 0; time < TRACE[event].times; time++) {
-            microscope_sketch *sketch = &counter->sketch;
-            microscope_change change =
-                microscope_update_at_in_place(microscope_settings_of(sketch), &sketch->reading, &sketch->state, key,
-                                              ROWS, TRACE[event].second, counter->grid, GRID_BYTES);
-            accepted(change.number, "update_at_in_place");
+            accepted(microscope_update_at(&counter->sketch, key, ROWS, TRACE[event].second, counter->grid, GRID_BYTES,
+                                          &change),
+                     "update_at");
             raise_peaks(counter, peaks);
         }
     }
-    microscope_answer answer = microscope_advance_to(counter->sketch, READING_AT, counter->grid, GRID_BYTES);
-    accepted(answer.number, "advance_to");
-    counter->sketch = answer.sketch;
+    accepted(microscope_advance_to(&counter->sketch, READING_AT, counter->grid, GRID_BYTES, &change), "advance_to");
     raise_peaks(counter, peaks);
 }
 
 /*
  * How far Over may be from the exact count: (2k - 1) x (c^M - 1), k being the sub-windows it adds up. It holds from a
- * fresh start on, without merges, while M is below microscope_base_max_zoom(C).
+ * fresh start on, without merges, while M is below the zoom that microscope_base_max_zoom gives.
  */
 static uint64_t band(const microscope_sketch *sketch, uint64_t peak) {
     uint64_t n = sub_window(sketch);
@@ -136,28 +127,29 @@ static void print_figures(const struct counter *counter, const uint64_t peaks[CO
     for (int code = 0; code < CODE_COUNT; code++) {
         uint32_t key[ROWS];
         columns_of(CODES[code], key);
-        microscope_reading r = microscope_estimate(counter->sketch, key, ROWS, counter->grid, GRID_BYTES);
-        microscope_number mean = microscope_mean(counter->sketch, key, ROWS, counter->grid, GRID_BYTES);
-        accepted(r.number, "estimate");
-        accepted(mean.number, "mean");
+        microscope_figures figures;
+        microscope_items items;
+        microscope_value mean;
+        accepted(microscope_estimate(&counter->sketch, key, ROWS, counter->grid, GRID_BYTES, &figures, &items),
+                 "estimate");
+        accepted(microscope_mean(&counter->sketch, key, ROWS, counter->grid, GRID_BYTES, &mean), "mean");
         printf("%s  over %4" PRIu64 "  under %4" PRIu64 "  linear %8.3f  a minute %3" PRIu64 "  M %" PRIu64
                "  band %" PRIu64 "\n",
-               CODES[code], r.over_items, r.under_items, r.linear, mean.value, peaks[code],
+               CODES[code], items.over, items.under, figures.linear, mean.value, peaks[code],
                band(&counter->sketch, peaks[code]));
     }
 }
 
 static void write_store(const char *path, const struct counter *counter) {
     static uint8_t store[STORE_BYTES];
-    microscope_number length = microscope_store_length(counter->sketch);
-    accepted(length.number, "store_length");
-    accepted(microscope_save(store, length.value, counter->sketch, counter->grid, GRID_BYTES).number, "save");
+    uint64_t index;
+    accepted(microscope_save(&counter->sketch, counter->grid, GRID_BYTES, store, STORE_BYTES, &index), "save");
     FILE *file = fopen(path, "wb");
-    if (file == NULL || fwrite(store, 1, length.value, file) != length.value || fclose(file) != 0) {
+    if (file == NULL || fwrite(store, 1, STORE_BYTES, file) != STORE_BYTES || fclose(file) != 0) {
         perror(path);
         exit(1);
     }
-    printf("saved: %" PRIu64 " bytes\n", length.value);
+    printf("saved: %d bytes\n", STORE_BYTES);
 }
 
 static size_t read_store(const char *path, uint8_t store[STORE_BYTES]) {
@@ -171,6 +163,11 @@ static size_t read_store(const char *path, uint8_t store[STORE_BYTES]) {
     return length;
 }
 
+static uint64_t load(struct counter *counter, const uint8_t *store, size_t length) {
+    uint64_t index;
+    return microscope_load(&counter->sketch, &counter->watch, counter->grid, GRID_BYTES, store, length, &index);
+}
+
 int main(int argc, char **argv) {
     static struct counter counter, again;
     static uint8_t store[STORE_BYTES];
@@ -180,19 +177,19 @@ int main(int argc, char **argv) {
         return 1;
     }
 
-    begin(&counter,
-          microscope_new(ROWS, COLS, T, C, MICROSCOPE_TIME, MINUTE, EPOCH, SEED, counter.grid, GRID_BYTES), "new");
+    accepted(microscope_new(&counter.sketch, &counter.watch, ROWS, COLS, T, C, MICROSCOPE_TIME, MINUTE, EPOCH, SEED,
+                            counter.grid, GRID_BYTES),
+             "new");
     count(&counter, peaks);
     printf("minute %" PRIu64 "\n", sub_window(&counter.sketch));
     print_figures(&counter, peaks);
 
     write_store(argv[1], &counter);
     size_t length = read_store(argv[1], store);
-    begin(&again, microscope_load(again.grid, GRID_BYTES, store, length), "load");
+    accepted(load(&again, store, length), "load");
     print_figures(&again, peaks);
 
     store[700] ^= 1;
-    printf("one bit changed: refused by %" PRIu64 "\n",
-           microscope_load(again.grid, GRID_BYTES, store, length).number);
+    printf("one bit changed: refused by %" PRIu64 "\n", load(&again, store, length));
     return 0;
 }

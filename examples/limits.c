@@ -11,8 +11,7 @@
 
 /* The last five minutes, by sub-windows of a minute; time stamps are in seconds. */
 enum { ROWS = 4, COLS = 64, T = 5, C = 2, MINUTE = 60 };
-enum { DEPTH = MICROSCOPE_DEPTH(T), GRID_BYTES = ROWS * COLS * DEPTH };
-enum { STORE_BYTES = 512 * (1 + (GRID_BYTES + 503) / 504) };
+enum { GRID_BYTES = MICROSCOPE_GRID_BYTES(ROWS, COLS, T), STORE_BYTES = MICROSCOPE_STORE_BYTES(ROWS, COLS, T) };
 enum { EPOCH = 1000, SEED = 2023 };
 
 static const char *const CODES[] = {"P0301", "P0420", "P0171", "U0100", "C1201"};
@@ -50,7 +49,7 @@ struct counter {
 
 static void accepted(uint64_t number, const char *call) {
     if (number != MICROSCOPE_ACCEPTED) {
-        fprintf(stderr, "%s: refused by %" PRIu64 "\n", call, number);
+        fprintf(stderr, "%s: refused by %" PRIu64 ": %s\n", call, number, microscope_meaning(number));
         exit(1);
     }
 }
@@ -66,46 +65,33 @@ static void columns_of(const char *code, uint32_t key[ROWS]) {
     }
 }
 
-/* What a fresh start or a load gave: a sketch, and a watch with no codes in place of one from before. */
-static void begin(struct counter *counter, microscope_start start, const char *call) {
-    accepted(start.number, call);
-    counter->sketch = start.sketch;
-    counter->watch = start.watch;
-}
-
-static void go_on(struct counter *counter, microscope_answer answer, const char *call) {
-    accepted(answer.number, call);
-    counter->sketch = answer.sketch;
-}
-
 /* The columns of one code stand behind those of another, and so do the limits. */
 static void watch_codes(struct counter *counter) {
     uint32_t columns[CODE_COUNT * ROWS];
     for (int code = 0; code < CODE_COUNT; code++) {
         columns_of(CODES[code], columns + code * ROWS);
     }
-    microscope_watched watched =
-        microscope_set_codes(counter->sketch, counter->watch, columns, CODE_COUNT * ROWS, LIMITS, CODE_COUNT,
-                             counter->kept_columns, counter->kept_limits);
-    accepted(watched.number, "set_codes");
-    counter->watch = watched.watch;
+    accepted(microscope_set_codes(&counter->sketch, &counter->watch, columns, CODE_COUNT * ROWS, LIMITS, CODE_COUNT,
+                                  counter->kept_columns, counter->kept_limits),
+             "set_codes");
 }
 
 static uint64_t over(const struct counter *counter, int code) {
     uint32_t key[ROWS];
     columns_of(CODES[code], key);
-    microscope_reading reading = microscope_estimate(counter->sketch, key, ROWS, counter->grid, GRID_BYTES);
-    accepted(reading.number, "estimate");
-    return reading.over_items;
+    microscope_figures figures;
+    microscope_items items;
+    accepted(microscope_estimate(&counter->sketch, key, ROWS, counter->grid, GRID_BYTES, &figures, &items), "estimate");
+    return items.over;
 }
 
 /* Prints the codes that newly reached their limit. */
 static void ask(struct counter *counter) {
     uint8_t list[CODE_COUNT];
-    microscope_asked asked = microscope_ask(counter->sketch, counter->watch, counter->kept_columns,
-                                            counter->kept_limits, counter->grid, GRID_BYTES, list, sizeof list);
-    accepted(asked.number, "ask");
-    counter->watch = asked.watch;
+    microscope_asked asked;
+    accepted(microscope_ask(&counter->sketch, &counter->watch, counter->kept_columns, counter->kept_limits,
+                            counter->grid, GRID_BYTES, list, sizeof list, &asked),
+             "ask");
     printf("%4" PRIu64 " s:", counter->sketch.reading);
     for (size_t at = 0; at < asked.listed; at++) {
         int code = list[at];
@@ -117,7 +103,8 @@ static void ask(struct counter *counter) {
 /* Asks at every full minute before this second that has not been asked at. */
 static void ask_before(struct counter *counter, uint64_t second, uint64_t *next) {
     for (; *next < second; *next += MINUTE) {
-        go_on(counter, microscope_advance_to(counter->sketch, *next, counter->grid, GRID_BYTES), "advance_to");
+        microscope_change change;
+        accepted(microscope_advance_to(&counter->sketch, *next, counter->grid, GRID_BYTES, &change), "advance_to");
         ask(counter);
     }
 }
@@ -129,19 +116,22 @@ static void count(struct counter *counter) {
         columns_of(CODES[TRACE[event].code], key);
         ask_before(counter, TRACE[event].second, &next);
         for (int time = 0; time < TRACE[event].times; time++) {
-            go_on(counter,
-                  microscope_update_at(counter->sketch, key, ROWS, TRACE[event].second, counter->grid, GRID_BYTES),
-                  "update_at");
+            microscope_change change;
+            accepted(microscope_update_at(&counter->sketch, key, ROWS, TRACE[event].second, counter->grid, GRID_BYTES,
+                                          &change),
+                     "update_at");
         }
     }
     ask_before(counter, LAST_ASKING + 1, &next);
 }
 
-/* The sketch goes through a store, and the codes do not. */
+/* The sketch goes through a store, and the codes do not: a load leaves a watch with none. */
 static void reload(struct counter *counter) {
     static uint8_t store[STORE_BYTES];
-    accepted(microscope_save(store, sizeof store, counter->sketch, counter->grid, GRID_BYTES).number, "save");
-    begin(counter, microscope_load(counter->grid, GRID_BYTES, store, sizeof store), "load");
+    uint64_t index;
+    accepted(microscope_save(&counter->sketch, counter->grid, GRID_BYTES, store, sizeof store, &index), "save");
+    accepted(microscope_load(&counter->sketch, &counter->watch, counter->grid, GRID_BYTES, store, sizeof store, &index),
+             "load");
 }
 
 /* Too short a list, and too many codes: both leave the codes and the list as they were. */
@@ -150,18 +140,20 @@ static void refused(struct counter *counter) {
     static const uint32_t columns[MANY * ROWS];
     static const uint64_t limits[MANY];
     uint8_t list[ROOM];
-    microscope_asked asked = microscope_ask(counter->sketch, counter->watch, counter->kept_columns,
-                                            counter->kept_limits, counter->grid, GRID_BYTES, list, ROOM);
-    printf("a list of %d for %d codes: refused by %" PRIu64 "\n", ROOM, CODE_COUNT, asked.number);
-    microscope_watched watched = microscope_set_codes(counter->sketch, counter->watch, columns, MANY * ROWS, limits,
-                                                      MANY, counter->kept_columns, counter->kept_limits);
-    printf("%d codes: refused by %" PRIu64 "\n", MANY, watched.number);
+    microscope_asked asked;
+    uint64_t number = microscope_ask(&counter->sketch, &counter->watch, counter->kept_columns, counter->kept_limits,
+                                     counter->grid, GRID_BYTES, list, ROOM, &asked);
+    printf("a list of %d for %d codes: refused by %" PRIu64 "\n", ROOM, CODE_COUNT, number);
+    number = microscope_set_codes(&counter->sketch, &counter->watch, columns, MANY * ROWS, limits, MANY,
+                                  counter->kept_columns, counter->kept_limits);
+    printf("%d codes: refused by %" PRIu64 "\n", MANY, number);
 }
 
 int main(void) {
     static struct counter counter;
-    begin(&counter,
-          microscope_new(ROWS, COLS, T, C, MICROSCOPE_TIME, MINUTE, EPOCH, SEED, counter.grid, GRID_BYTES), "new");
+    accepted(microscope_new(&counter.sketch, &counter.watch, ROWS, COLS, T, C, MICROSCOPE_TIME, MINUTE, EPOCH, SEED,
+                            counter.grid, GRID_BYTES),
+             "new");
     watch_codes(&counter);
     count(&counter);
     refused(&counter);

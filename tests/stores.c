@@ -19,7 +19,7 @@ static const uint64_t longest = UINT64_C(1) << 53;
 /* ---- sketches ---- */
 
 struct timing {
-    uint32_t kind;
+    uint64_t kind;
     uint64_t length;
     uint64_t epoch;
     uint64_t reading;
@@ -33,7 +33,8 @@ static struct timing by_time(uint64_t length, uint64_t epoch, uint64_t now) {
     return (struct timing){MICROSCOPE_TIME, length, epoch, now};
 }
 
-static microscope_sketch sketch(size_t rows, size_t cols, size_t t, uint32_t c, struct timing clock, uint64_t state) {
+static microscope_sketch sketch(uint64_t rows, uint64_t cols, uint64_t t, uint64_t c, struct timing clock,
+                                uint64_t state) {
     return (microscope_sketch){rows, cols, t, c, clock.kind, clock.length, clock.epoch, clock.reading, state};
 }
 
@@ -69,7 +70,7 @@ static uint8_t cell_byte(size_t t, size_t index, size_t place, uint8_t any) {
 
 /* A grid of sound cells, another for each run. */
 static void fill(uint8_t *grid, size_t size, size_t t, uint64_t run) {
-    size_t depth = microscope_depth(t, 2).value;
+    size_t depth = MICROSCOPE_DEPTH(t);
     for (size_t i = 0; i < size; i++) {
         grid[i] = cell_byte(t, i / depth, i % depth, random_byte(run, i));
     }
@@ -101,13 +102,14 @@ static void seal(uint8_t *store, size_t number) {
 /* ---- the exact length, from the least sketch to the largest, and of settings that no sketch has ---- */
 
 static void length(const char *name, microscope_sketch of) {
-    microscope_number answer = microscope_store_length(of);
+    uint64_t bytes;
+    uint64_t number = microscope_store_length(&of, &bytes);
     printf("length, %s: ", name);
-    print_verdict(answer.number, answer.index, ", cell ");
-    printf(", %" PRIu64 "\n", answer.value);
+    print_verdict(number, 0, ", cell ");
+    printf(", %" PRIu64 "\n", bytes);
 }
 
-static void sized(const char *name, size_t rows, size_t cols, size_t t) {
+static void sized(const char *name, uint64_t rows, uint64_t cols, uint64_t t) {
     length(name, sketch(rows, cols, t, 2, counting(1, 0), 1));
 }
 
@@ -128,10 +130,10 @@ static void lengths(void) {
 
 /* The shape of a run's sketches, and the bytes of their grid. */
 struct shape {
-    size_t rows;
-    size_t cols;
-    size_t t;
-    uint32_t c;
+    uint64_t rows;
+    uint64_t cols;
+    uint64_t t;
+    uint64_t c;
     size_t size;
 };
 
@@ -155,23 +157,32 @@ static bool same_sketch(microscope_sketch one, microscope_sketch other) {
     return same_bytes(&one, &other, sizeof one);
 }
 
+static bool no_codes(microscope_watch watch) {
+    return watch.count == 0 && watch.rows == 0 && watch.reached == 0;
+}
+
 /* What was loaded is what was saved, and saves as the same bytes. */
 static bool there_and_back(microscope_sketch of, const uint8_t *grid, size_t size, size_t stored) {
     static uint8_t store[LARGEST_STORE], back[LARGEST_GRID], again[LARGEST_STORE];
-    if (microscope_save(store, stored, of, grid, size).number != 0) {
+    microscope_sketch loaded;
+    microscope_watch watch;
+    uint64_t index;
+    if (microscope_save(&of, grid, size, store, stored, &index) != 0) {
         return false;
     }
-    microscope_start loaded = microscope_load(back, size, store, stored);
-    if (loaded.number != 0 || !same_sketch(loaded.sketch, of) || !same_bytes(back, grid, size)) {
+    if (microscope_load(&loaded, &watch, back, size, store, stored, &index) != 0) {
         return false;
     }
-    return microscope_save(again, stored, loaded.sketch, back, size).number == 0 && same_bytes(again, store, stored);
+    if (!same_sketch(loaded, of) || !no_codes(watch) || !same_bytes(back, grid, size)) {
+        return false;
+    }
+    return microscope_save(&loaded, back, size, again, stored, &index) == 0 && same_bytes(again, store, stored);
 }
 
 static bool trip(microscope_sketch of, size_t size) {
     static uint8_t grid[LARGEST_GRID];
-    uint64_t stored = microscope_store_length(of).value;
-    if (size > LARGEST_GRID || stored > LARGEST_STORE) {
+    uint64_t stored;
+    if (microscope_store_length(&of, &stored) != 0 || size > LARGEST_GRID || stored > LARGEST_STORE) {
         return false;
     }
     fill(grid, size, of.t, of.state);
@@ -200,10 +211,10 @@ static void clocks(struct tally *tally, struct shape of) {
     states(tally, of, by_time(longest, UINT64_MAX, UINT64_MAX));
 }
 
-static void shaped(size_t rows, size_t cols, size_t t, uint32_t c, size_t size) {
+static void shaped(uint64_t rows, uint64_t cols, uint64_t t, uint64_t c, size_t size) {
     struct tally tally = {0, 0};
     clocks(&tally, (struct shape){rows, cols, t, c, size});
-    printf("there and back, %zu x %zu cells, t %zu, c %" PRIu32 ": ", rows, cols, t, c);
+    printf("there and back, %" PRIu64 " x %" PRIu64 " cells, t %" PRIu64 ", c %" PRIu64 ": ", rows, cols, t, c);
     printf("%" PRIu64 " the same, %" PRIu64 " otherwise\n", tally.right, tally.other);
 }
 
@@ -226,9 +237,10 @@ static void trips(void) {
 static void tell_save(const char *name, microscope_sketch of, const uint8_t *grid, size_t size, size_t stored) {
     uint8_t store[STORE + 1];
     memset(store, MARK, sizeof store);
-    microscope_verdict given = microscope_save(store, stored, of, grid, size);
+    uint64_t index;
+    uint64_t number = microscope_save(&of, grid, size, store, stored, &index);
     printf("save, %s: ", name);
-    print_verdict(given.number, given.index, ", cell ");
+    print_verdict(number, index, ", cell ");
     printf(marked(store, sizeof store) ? ", store as it was\n" : ", store written\n");
 }
 
@@ -268,24 +280,29 @@ static void saves(void) {
 /* What a load answered, and whether it left every byte of the grid. */
 struct outcome {
     uint64_t number;
-    size_t index;
+    uint64_t index;
     bool kept;
 };
 
 /* The store of a bench sketch. A save that is refused leaves the buffer all zeros, which no load takes. */
 static void make_store(uint8_t *store, microscope_sketch of, uint64_t run) {
     uint8_t grid[GRID];
+    uint64_t index;
     fill(grid, sizeof grid, T, run);
     memset(store, 0, STORE);
-    microscope_save(store, STORE, of, grid, sizeof grid);
+    microscope_save(&of, grid, sizeof grid, store, STORE, &index);
 }
 
 /* A load into a grid of so many bytes. */
 static struct outcome tried(const uint8_t *store, size_t stored, size_t size) {
     uint8_t grid[GRID + 1];
+    microscope_sketch sketch;
+    microscope_watch watch;
+    struct outcome outcome;
     memset(grid, MARK, sizeof grid);
-    microscope_start answer = microscope_load(grid, size, store, stored);
-    return (struct outcome){answer.number, answer.index, marked(grid, sizeof grid)};
+    outcome.number = microscope_load(&sketch, &watch, grid, size, store, stored, &outcome.index);
+    outcome.kept = marked(grid, sizeof grid);
+    return outcome;
 }
 
 static void tell(const char *name, struct outcome outcome) {
