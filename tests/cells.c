@@ -3,8 +3,7 @@
  * beside each edge what is accepted. cells.out has what this must print.
  *
  * The calls on settings alone are not here: of what they answer the library gives only the depth and the highest zoom.
- * The worked examples in crates/cell/proofs/SettingsExamples.antt have it whole. But the header's own depth is held to the
- * library's, and a line comes only if the two differ.
+ * The worked examples in crates/cell/proofs/SettingsExamples.antt have it whole. tests/sizes.c has the depth.
  *
  * A cell of t = 1 is written as its eight bytes: three pixels, the zoom, the four bytes of the shutter.
  */
@@ -30,8 +29,8 @@ enum { SHOWN = 12, ROOM = MICROSCOPE_DEPTH(4096) + 1 };
 
 /* ---- what is told of a call ---- */
 
-static void tell_settings(const char *call, size_t t, uint32_t c) {
-    printf("%s t %zu c %" PRIu32, call, t, c);
+static void tell_settings(const char *call, uint64_t t, uint64_t c) {
+    printf("%s t %" PRIu64 " c %" PRIu64, call, t, c);
 }
 
 static void tell_each(struct bytes cell) {
@@ -49,20 +48,21 @@ static void tell_cell(const char *name, struct bytes cell) {
     printf(" of %zu bytes with sum %" PRIu64, cell.count, weighed(cell.at, cell.count));
 }
 
-static void tell_verdict(const char *words, uint64_t number, size_t index) {
+static void tell_verdict(const char *words, uint64_t number, uint64_t index) {
     printf("%s", words);
     print_verdict(number, index, " at index ");
 }
 
-static void tell_number(const char *words, microscope_number answer) {
-    tell_verdict(words, answer.number, answer.index);
-    printf(" %" PRIu64, answer.value);
+/* A call that reads a cell tells no index. */
+static void tell_number(const char *words, uint64_t number, uint64_t value) {
+    tell_verdict(words, number, 0);
+    printf(" %" PRIu64, value);
 }
 
-static void tell_figure(const char *words, microscope_figure answer) {
+static void tell_figure(const char *words, uint64_t number, double value) {
     uint64_t bits;
-    memcpy(&bits, &answer.value, sizeof bits);
-    tell_verdict(words, answer.number, answer.index);
+    memcpy(&bits, &value, sizeof bits);
+    tell_verdict(words, number, 0);
     printf(" %016" PRIx64, bits);
 }
 
@@ -82,34 +82,67 @@ static void tell_left(struct bytes left, struct bytes given) {
     }
 }
 
-/* ---- the calls, each with a line ---- */
+/* ---- the calls, each with a line; every cell, state and told number is lent in memory of its own size ---- */
 
-static void reads(size_t t, uint32_t c, uint64_t n, struct bytes cell) {
-    microscope_verdict judged = microscope_cell_check(cell.at, cell.count, t, c);
+static void tell_zoom(struct bytes cell, uint64_t t, uint64_t c) {
+    uint64_t *zoom = exactly(sizeof *zoom);
+    uint64_t number = microscope_cell_zoom(cell.at, cell.count, t, c, zoom);
+    tell_number(", zoom ", number, *zoom);
+    free(zoom);
+}
+
+static void tell_shutter(struct bytes cell, uint64_t t, uint64_t c) {
+    uint64_t *shutter = exactly(sizeof *shutter);
+    uint64_t number = microscope_cell_shutter(cell.at, cell.count, t, c, shutter);
+    tell_number(", shutter ", number, *shutter);
+    free(shutter);
+}
+
+static void tell_pixel(struct bytes cell, uint64_t t, uint64_t c, uint64_t n) {
+    double *items = exactly(sizeof *items);
+    uint64_t number = microscope_cell_scaled_pixel(cell.at, cell.count, t, c, n, items);
+    tell_figure(", scaled_pixel ", number, *items);
+    free(items);
+}
+
+static void reads(uint64_t t, uint64_t c, uint64_t n, struct bytes given) {
+    uint8_t *bytes = exact_copy(given.at, given.count);
+    struct bytes cell = {bytes, given.count};
     tell_settings("read", t, c);
     printf(" n %" PRIu64, n);
     tell_cell("cell", cell);
-    tell_verdict(": judge ", judged.number, judged.index);
-    tell_number(", zoom ", microscope_cell_zoom(cell.at, cell.count, t, c));
-    tell_number(", shutter ", microscope_cell_shutter(cell.at, cell.count, t, c));
-    tell_figure(", scaled_pixel ", microscope_cell_scaled_pixel(cell.at, cell.count, t, c, n));
+    tell_verdict(": judge ", microscope_cell_check(cell.at, cell.count, t, c), 0);
+    tell_zoom(cell, t, c);
+    tell_shutter(cell, t, c);
+    tell_pixel(cell, t, c, n);
     printf("\n");
+    free(bytes);
 }
 
-static void tell_change(microscope_drawn answer, uint64_t state, struct bytes left, struct bytes given) {
-    tell_verdict(": ", answer.number, answer.index);
-    printf(", draws %" PRIu64, answer.draws);
-    tell_state(answer.state, state);
-    tell_left(left, given);
-    printf("\n");
+/* What a call works on: a copy, so that what it leaves can be compared with what it was given. */
+struct work {
+    uint8_t *cell;
+    uint64_t *state;
+    microscope_change *change;
+};
+
+static struct work work_on(struct bytes given, uint64_t state) {
+    return (struct work){
+        exact_copy(given.at, given.count),
+        exact_copy(&state, sizeof state),
+        exactly(sizeof(microscope_change)),
+    };
 }
 
-/* A call works on a copy, so that what it leaves can be compared with what it was given. */
-static uint8_t room[ROOM];
-
-static struct bytes copy_of(struct bytes given) {
-    memcpy(room, given.at, given.count);
-    return (struct bytes){room, given.count};
+static void tell_change(uint64_t number, struct work work, uint64_t state, struct bytes given) {
+    tell_verdict(": ", number, work.change->index);
+    printf(", draws %" PRIu64, work.change->draws);
+    tell_state(*work.state, state);
+    tell_left((struct bytes){work.cell, given.count}, given);
+    printf("\n");
+    free(work.cell);
+    free(work.state);
+    free(work.change);
 }
 
 static void tell_given(uint64_t state, struct bytes given) {
@@ -117,29 +150,35 @@ static void tell_given(uint64_t state, struct bytes given) {
     tell_cell("cell", given);
 }
 
-static void insert(size_t t, uint32_t c, uint64_t n, uint64_t state, struct bytes given) {
-    struct bytes left = copy_of(given);
+static void insert(uint64_t t, uint64_t c, uint64_t n, uint64_t state, struct bytes given) {
+    struct work work = work_on(given, state);
     tell_settings("insert", t, c);
     printf(" n %" PRIu64, n);
     tell_given(state, given);
-    tell_change(microscope_cell_insert(room, left.count, t, c, n, state), state, left, given);
+    uint64_t number = microscope_cell_insert(work.cell, given.count, t, c, n, work.state, work.change);
+    tell_change(number, work, state, given);
 }
 
-static void enter(size_t t, uint32_t c, uint64_t n, uint64_t crossed, uint64_t state, struct bytes given) {
-    struct bytes left = copy_of(given);
+static void enter(uint64_t t, uint64_t c, uint64_t n, uint64_t crossed, uint64_t state, struct bytes given) {
+    struct work work = work_on(given, state);
     tell_settings("enter", t, c);
     printf(" new_n %" PRIu64 " crossed %" PRIu64, n, crossed);
     tell_given(state, given);
-    tell_change(microscope_cell_enter_sub_window(room, left.count, t, c, n, crossed, state), state, left, given);
+    uint64_t number =
+        microscope_cell_enter_sub_window(work.cell, given.count, t, c, n, crossed, work.state, work.change);
+    tell_change(number, work, state, given);
 }
 
-static void merge(size_t t, uint32_t c, uint64_t n, uint64_t state, struct bytes given, struct bytes src) {
-    struct bytes left = copy_of(given);
+static void merge(uint64_t t, uint64_t c, uint64_t n, uint64_t state, struct bytes given, struct bytes src) {
+    struct work work = work_on(given, state);
+    uint8_t *lent = exact_copy(src.at, src.count);
     tell_settings("merge", t, c);
     printf(" n %" PRIu64, n);
     tell_cell("src", src);
     tell_given(state, given);
-    tell_change(microscope_cell_merge(room, left.count, src.at, src.count, t, c, n, state), state, left, given);
+    uint64_t number = microscope_cell_merge(work.cell, given.count, lent, src.count, t, c, n, work.state, work.change);
+    tell_change(number, work, state, given);
+    free(lent);
 }
 
 /* ---- the cases ---- */
@@ -163,7 +202,7 @@ static void sound_edges(void) {
 }
 
 static void read_refusals(void) {
-    struct bytes nothing = {room, 0};
+    struct bytes nothing = {(const uint8_t[]){0}, 0};
     reads(0, 2, 0, SOUND);
     reads(4097, 2, 0, SOUND);
     reads(1, 1, 0, SOUND);
@@ -307,25 +346,6 @@ static void largest(void) {
     merge(4096, 2, 4097, 1, cell, shorter);
 }
 
-/* The first t of which MICROSCOPE_DEPTH is not what the call gives, 0 if there is none. */
-static size_t other_depth(void) {
-    for (size_t t = 1; t <= 4096; t++) {
-        if (microscope_depth(t, 2).value != MICROSCOPE_DEPTH(t)) {
-            return t;
-        }
-    }
-    return 0;
-}
-
-static void depths(void) {
-    size_t t = other_depth();
-    if (t != 0) {
-        printf("depth of t %zu: %zu by the header", t, MICROSCOPE_DEPTH(t));
-        tell_number(", by the call ", microscope_depth(t, 2));
-        printf("\n");
-    }
-}
-
 int main(void) {
     printf("a cell by its bytes: pixels, zoom, four of shutter, pad; a long one by the sum of byte i times i + 1; "
            "scaled_pixel by its bits\n");
@@ -339,6 +359,5 @@ int main(void) {
     merges();
     two_causes();
     largest();
-    depths();
     return 0;
 }

@@ -8,6 +8,7 @@
 #include <inttypes.h>
 #include <stdbool.h>
 #include <stdio.h>
+#include <stdlib.h>
 #include <string.h>
 
 #include "microscope.h"
@@ -16,15 +17,29 @@ static inline bool same_bytes(const void *one, const void *other, size_t count) 
     return memcmp(one, other, count) == 0;
 }
 
+/* Memory of just so many bytes, so that valgrind sees a byte that a call reads or writes outside of what it was lent. */
+static inline void *exactly(size_t count) {
+    void *memory = malloc(count);
+    if (memory == NULL) {
+        fprintf(stderr, "no memory of %zu bytes\n", count);
+        exit(1);
+    }
+    return memory;
+}
+
+static inline void *exact_copy(const void *bytes, size_t count) {
+    return memcpy(exactly(count), bytes, count);
+}
+
 /* `accepted`, `refused by 6`; with 14 the index follows behind its word. */
-static inline void print_verdict(uint64_t number, size_t index, const char *word) {
+static inline void print_verdict(uint64_t number, uint64_t index, const char *word) {
     if (number == MICROSCOPE_ACCEPTED) {
         printf("accepted");
         return;
     }
     printf("refused by %" PRIu64, number);
     if (number == MICROSCOPE_UNSOUND) {
-        printf("%s%zu", word, index);
+        printf("%s%" PRIu64, word, index);
     }
 }
 
