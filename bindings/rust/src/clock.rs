@@ -2,7 +2,7 @@
 
 #![forbid(unsafe_code)]
 
-use crate::plain::Sketch;
+use crate::plain::{ITEMS, Sketch, TIME};
 
 /// The clock of a sketch, under the published names.
 #[derive(Clone, Copy, Debug, PartialEq, Eq)]
@@ -27,13 +27,10 @@ pub enum SubWindowClock {
 
 /// A clock as it goes over the edge.
 pub(crate) struct PlainClock {
-    pub kind: u32,
+    pub kind: u64,
     pub length: u64,
     pub epoch: u64,
 }
-
-const ITEMS: u32 = 0;
-const TIME: u32 = 1;
 
 impl SubWindowClock {
     /// A clock of items, at the start. A length of 0 is refused when the sketch is made, by 3.

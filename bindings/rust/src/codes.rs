@@ -3,7 +3,7 @@
 #![forbid(unsafe_code)]
 
 use crate::Error;
-use crate::calls::{self, KEPT_COLUMNS, MOST_CODES, Sketch, Watch};
+use crate::calls::{self, Asked, KEPT_COLUMNS, MOST_CODES, Sketch, Watch};
 use std::fmt;
 
 /// Columns and limits, of this size whatever the sketch.
@@ -27,24 +27,38 @@ pub(crate) struct Codes {
 }
 
 impl Codes {
-    /// As a fresh start or a load gives them: none.
-    pub fn started(watch: Watch) -> Self {
-        Self { watch, kept: None }
+    /// As a fresh start or a load leaves them.
+    pub fn none() -> Self {
+        Self {
+            watch: Watch::default(),
+            kept: None,
+        }
     }
 
-    pub fn set(&mut self, sketch: Sketch, columns: &[u32], limits: &[u64]) -> Result<(), Error> {
+    pub fn set(&mut self, sketch: &Sketch, columns: &[u32], limits: &[u64]) -> Result<(), Error> {
         let kept = self.kept.get_or_insert_with(|| Box::new(NEVER_SET.clone()));
         let (kept_columns, kept_limits) = (&mut kept.columns, &mut kept.limits);
-        let answer = calls::set_codes(sketch, self.watch, columns, limits, kept_columns, kept_limits);
-        self.watch = answer.watch;
-        Error::unless_accepted(answer.number, answer.index)
+        calls::set_codes(sketch, &mut self.watch, columns, limits, kept_columns, kept_limits)
     }
 
-    pub fn ask(&mut self, sketch: Sketch, grid: &[u8], list: &mut [u8]) -> Result<usize, Error> {
-        let answer = calls::ask(sketch, self.watch, self.columns(), self.limits(), grid, list);
-        self.watch = answer.watch;
-        Error::unless_accepted(answer.number, answer.index)?;
-        Ok(answer.listed)
+    pub fn ask(&mut self, sketch: &Sketch, grid: &[u8], list: &mut [u8]) -> Result<usize, Error> {
+        let kept = self.kept.as_deref().unwrap_or(&NEVER_SET);
+        let mut asked = Asked::default();
+        calls::ask(
+            sketch,
+            &mut self.watch,
+            &kept.columns,
+            &kept.limits,
+            grid,
+            list,
+            &mut asked,
+        )?;
+        Ok(asked.listed as usize)
+    }
+
+    /// For a fresh start or a load, which leave no codes.
+    pub fn watch_mut(&mut self) -> &mut Watch {
+        &mut self.watch
     }
 
     pub fn watch(&self) -> Watch {
@@ -71,6 +85,7 @@ impl Codes {
     /// The codes that are set, and what the last asking found. What else stands in the memory is left from lists before.
     fn set_ones(&self) -> (&[u32], &[u64], u64) {
         let Watch { count, rows, reached } = self.watch;
+        let (count, rows) = (count as usize, rows as usize);
         (&self.columns()[..count * rows], &self.limits()[..count], reached)
     }
 }

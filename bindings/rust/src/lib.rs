@@ -7,17 +7,20 @@
 //! tested only; docs/EDGE.md says where the line runs.
 
 #![deny(unsafe_code)]
-#![warn(missing_docs)]
+#![warn(missing_docs, clippy::undocumented_unsafe_blocks)]
 
 // `forbid` at the root could not be lifted for the one module that needs it, so each of the others has its own.
 #[allow(unsafe_code)]
 pub mod calls;
 mod clock;
 mod codes;
-mod error;
 mod plain;
+mod refusal;
 mod sketch;
 
 pub use clock::SubWindowClock;
-pub use error::Error;
+pub use refusal::Refusal;
 pub use sketch::{MicroCm, MicroParams, Reading};
+
+/// A refusal, by the name that errors usually have.
+pub type Error = Refusal;

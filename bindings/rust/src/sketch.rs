@@ -2,9 +2,9 @@
 
 #![forbid(unsafe_code)]
 
-use crate::calls::{self, Change, KEPT_COLUMNS, MOST_CODES, Sketch, Start, Watch};
+use crate::calls::{self, Change, Figures, Found, Items, KEPT_COLUMNS, MOST_CODES, Sketch, Value, Watch};
 use crate::codes::Codes;
-use crate::{Error, SubWindowClock};
+use crate::{Error, Refusal, SubWindowClock};
 
 /// The shape of a cell.
 #[derive(Clone, Copy, Debug, PartialEq, Eq)]
@@ -44,9 +44,6 @@ pub struct MicroCm {
     codes: Codes,
 }
 
-/// The number of a grid that has not the right length.
-const WRONG_BYTES: u64 = 6;
-
 impl MicroCm {
     /// A fresh sketch: nothing counted, and the clock at its start. The same seed and calls give the same bytes.
     pub fn with_dimensions(
@@ -58,66 +55,72 @@ impl MicroCm {
     ) -> Result<Self, Error> {
         let MicroParams { t, c } = params;
         let plain = clock.plain();
-        let fresh = |grid: &mut [u8]| {
+        let fill = |fresh: &mut Self| {
             calls::new(
-                rows,
-                cols,
-                t,
-                c,
+                &mut fresh.sketch,
+                fresh.codes.watch_mut(),
+                rows as u64,
+                cols as u64,
+                t as u64,
+                c as u64,
                 plain.kind,
                 plain.length,
                 plain.epoch,
                 rounding_seed,
-                grid,
+                &mut fresh.grid,
             )
         };
+        let mut fresh = Self::without_grid();
         // No grid is empty, so this one is refused: by 6 if there is nothing wrong with the settings.
-        unless_only_bytes(fresh(&mut []))?;
-        Self::filled(grid_bytes(rows, cols, params)?, fresh)
+        unless_only_bytes(fill(&mut fresh))?;
+        fresh.grid = vec![0; grid_bytes(rows, cols, params)?];
+        fill(&mut fresh)?;
+        Ok(fresh)
     }
 
     /// One item, on a clock of items. Gives the random draws made.
     pub fn update(&mut self, key: &[u32]) -> Result<u64, Error> {
-        told(calls::update_in_place(&mut self.sketch, key, &mut self.grid))
+        let mut change = Change::default();
+        calls::update(&mut self.sketch, key, &mut self.grid, &mut change)?;
+        Ok(change.draws)
     }
 
     /// One item at this time, on a clock of time; an older time stamp counts as the latest. Gives the draws made.
     pub fn update_at(&mut self, key: &[u32], timestamp: u64) -> Result<u64, Error> {
-        told(calls::update_at_in_place(
-            &mut self.sketch,
-            key,
-            timestamp,
-            &mut self.grid,
-        ))
+        let mut change = Change::default();
+        calls::update_at(&mut self.sketch, key, timestamp, &mut self.grid, &mut change)?;
+        Ok(change.draws)
     }
 
     /// Time passes without an item: before reading a key that has gone quiet. Gives the draws made.
     pub fn advance_to(&mut self, timestamp: u64) -> Result<u64, Error> {
-        told(calls::advance_to_in_place(&mut self.sketch, timestamp, &mut self.grid))
+        let mut change = Change::default();
+        calls::advance_to(&mut self.sketch, timestamp, &mut self.grid, &mut change)?;
+        Ok(change.draws)
     }
 
     /// The figures of a key; `linear` is what the published `estimate` gives.
     pub fn estimate(&self, key: &[u32]) -> Result<Reading, Error> {
-        figures(calls::estimate(self.sketch, key, &self.grid))
+        read(|figures, items| calls::estimate(&self.sketch, key, &self.grid, figures, items))
     }
 
     /// The figures of a key with a given fraction, 0 to 1, of the oldest sub-window.
     pub fn estimate_with(&self, key: &[u32], fraction: f64) -> Result<Reading, Error> {
-        figures(calls::estimate_with(self.sketch, key, fraction, &self.grid))
+        read(|figures, items| calls::estimate_with(&self.sketch, key, fraction, &self.grid, figures, items))
     }
 
     /// Items a sub-window: Under divided by t, rounded down.
     pub fn mean(&self, key: &[u32]) -> Result<u64, Error> {
-        let answer = calls::mean(self.sketch, key, &self.grid);
-        Error::unless_accepted(answer.number, answer.index)?;
-        Ok(answer.value)
+        let mut mean = Value::default();
+        calls::mean(&self.sketch, key, &self.grid, &mut mean)?;
+        Ok(mean.value)
     }
 
     /// Watches these codes from now on, in place of those before: `columns` are their keys, one code behind another, and
     /// `limits` their limits in items, one for each code, 64 at most. Until the first asking all count as below. The memory
     /// for them, 33 KB whatever their number, is allocated by the first call.
     pub fn set_codes(&mut self, columns: &[u32], limits: &[u64]) -> Result<(), Error> {
-        self.codes.set(self.sketch, columns, limits)
+        self.codes.set(&self.sketch, columns, limits)
     }
 
     /// The codes that newly reached their limit: each whose Over figure is at its limit or above now and was below at the
@@ -131,46 +134,50 @@ impl MicroCm {
     /// The same without allocation: writes the codes to the list's start, a byte each, and gives how many they are. The
     /// list must have a byte for each code that is watched; those behind the listed ones stay as they are.
     pub fn ask_into(&mut self, list: &mut [u8]) -> Result<usize, Error> {
-        self.codes.ask(self.sketch, &self.grid, list)
+        self.codes.ask(&self.sketch, &self.grid, list)
     }
 
     /// Adds the counts of another sketch of the same settings that has reached the same sub-window. Gives the draws. The
     /// codes stay this sketch's.
     pub fn merge(&mut self, other: &Self) -> Result<u64, Error> {
-        let answer = calls::merge(self.sketch, &mut self.grid, other.sketch, &other.grid);
-        Error::unless_accepted(answer.number, answer.index)?;
-        self.sketch = answer.sketch;
-        Ok(answer.draws)
+        let mut change = Change::default();
+        calls::merge(
+            &mut self.sketch,
+            &mut self.grid,
+            &other.sketch,
+            &other.grid,
+            &mut change,
+        )?;
+        Ok(change.draws)
     }
 
     /// The highest zoom that any cell has now.
     pub fn max_zoom(&self) -> Result<u8, Error> {
-        let answer = calls::max_zoom(self.sketch, &self.grid);
-        Error::unless_accepted(answer.number, answer.index)?;
-        Ok(answer.value as u8)
+        let mut zoom = Value::default();
+        calls::max_zoom(&self.sketch, &self.grid, &mut zoom)?;
+        Ok(zoom.value as u8)
     }
 
-    /// An unsound cell (row × cols + column), if there is one. A sketch that only these methods wrote has none.
+    /// The first unsound cell (row × cols + column), if there is one. A sketch that only these methods wrote has none.
     pub fn audit(&self) -> Result<Option<usize>, Error> {
-        let found = calls::audit(self.sketch, &self.grid);
-        Error::unless_accepted(found.number, 0)?;
-        Ok((found.unsound != 0).then_some(found.index))
+        let mut found = Found::default();
+        calls::audit(&self.sketch, &self.grid, &mut found)?;
+        Ok((found.unsound != 0).then_some(found.index as usize))
     }
 
     /// The bytes of one cell: t + 2 pixels, the zoom, the shutter (4 bytes, low byte first), pad bytes.
     pub fn bucket_slice(&self, row: usize, col: usize) -> Result<&[u8], Error> {
-        let verdict = calls::bucket_check(self.sketch, row, col, &self.grid);
-        Error::unless_accepted(verdict.number, verdict.index)?;
+        calls::bucket_check(&self.sketch, row as u64, col as u64, &self.grid)?;
         let depth = self.cell_bytes();
-        let start = (row * self.sketch.cols + col) * depth;
+        let start = (row * self.cols() + col) * depth;
         Ok(&self.grid[start..start + depth])
     }
 
     /// How many bytes `save` gives.
     pub fn store_length(&self) -> Result<usize, Error> {
-        let answer = calls::store_length(self.sketch);
-        Error::unless_accepted(answer.number, answer.index)?;
-        Ok(answer.value as usize)
+        let mut length = 0;
+        calls::store_length(&self.sketch, &mut length)?;
+        Ok(length as usize)
     }
 
     /// The store of this sketch: a form that outlives the process.
@@ -182,38 +189,48 @@ impl MicroCm {
 
     /// The same into a buffer of exactly `store_length` bytes.
     pub fn save_to(&self, store: &mut [u8]) -> Result<(), Error> {
-        let verdict = calls::save(store, self.sketch, &self.grid);
-        Error::unless_accepted(verdict.number, verdict.index)
+        calls::save(&self.sketch, &self.grid, store, &mut 0)
     }
 
     /// The sketch that was saved. No codes are in a store: it watches none.
     pub fn load(store: &[u8]) -> Result<Self, Error> {
+        let fill = |loaded: &mut Self| {
+            calls::load(
+                &mut loaded.sketch,
+                loaded.codes.watch_mut(),
+                &mut loaded.grid,
+                store,
+                &mut 0,
+            )
+        };
+        let mut loaded = Self::without_grid();
         // Refused by 6 if there is nothing wrong but that the grid is missing; then the header can be trusted.
-        unless_only_bytes(calls::load(&mut [], store))?;
+        unless_only_bytes(fill(&mut loaded))?;
         let field = |at: usize| u32::from_le_bytes([store[at], store[at + 1], store[at + 2], store[at + 3]]);
         let params = MicroParams {
             t: field(16) as usize,
             c: field(20),
         };
-        let bytes = grid_bytes(field(8) as usize, field(12) as usize, params)?;
-        Self::filled(bytes, |grid| calls::load(grid, store))
+        loaded.grid = vec![0; grid_bytes(field(8) as usize, field(12) as usize, params)?];
+        fill(&mut loaded)?;
+        Ok(loaded)
     }
 
     /// Number of rows.
     pub fn rows(&self) -> usize {
-        self.sketch.rows
+        self.sketch.rows as usize
     }
 
     /// Number of columns a row.
     pub fn cols(&self) -> usize {
-        self.sketch.cols
+        self.sketch.cols as usize
     }
 
     /// The shape of a cell.
     pub fn params(&self) -> MicroParams {
         MicroParams {
-            t: self.sketch.t,
-            c: self.sketch.c,
+            t: self.sketch.t as usize,
+            c: self.sketch.c as u32,
         }
     }
 
@@ -254,7 +271,7 @@ impl MicroCm {
 
     /// Bytes a cell.
     pub fn cell_bytes(&self) -> usize {
-        self.grid.len() / (self.sketch.rows * self.sketch.cols)
+        self.grid.len() / (self.rows() * self.cols())
     }
 
     /// Bytes this sketch holds: the struct, its cells, and the memory for codes, once codes were set.
@@ -272,48 +289,41 @@ impl MicroCm {
         self.clock().residual_fraction()
     }
 
-    /// A sketch whose grid this call fills.
-    fn filled(bytes: usize, fill: impl Fn(&mut [u8]) -> Start) -> Result<Self, Error> {
-        let mut grid = vec![0; bytes];
-        let start = fill(&mut grid);
-        Error::unless_accepted(start.number, start.index)?;
-        Ok(Self {
-            sketch: start.sketch,
-            grid,
-            codes: Codes::started(start.watch),
-        })
+    /// What a fresh start or a load fills, its grid yet to be allocated.
+    fn without_grid() -> Self {
+        Self {
+            sketch: Sketch::default(),
+            grid: Vec::new(),
+            codes: Codes::none(),
+        }
     }
 }
 
-/// The draws of a change that was accepted.
-fn told(change: Change) -> Result<u64, Error> {
-    Error::unless_accepted(change.number, change.index)?;
-    Ok(change.draws)
-}
-
 /// A refusal, unless it is for the grid's length alone.
-fn unless_only_bytes(start: Start) -> Result<(), Error> {
-    match start.number {
-        WRONG_BYTES => Ok(()),
-        number => Error::unless_accepted(number, start.index),
+fn unless_only_bytes(answer: Result<(), Error>) -> Result<(), Error> {
+    match answer {
+        Err(Refusal::Bytes) => Ok(()),
+        other => other,
     }
 }
 
 /// The bytes of a grid whose settings were accepted; that keeps the product below 2^32.
 fn grid_bytes(rows: usize, cols: usize, params: MicroParams) -> Result<usize, Error> {
-    let depth = calls::depth(params.t, params.c);
-    Error::unless_accepted(depth.number, depth.index)?;
-    Ok(rows * cols * depth.value as usize)
+    let mut depth = 0;
+    calls::depth(params.t as u64, params.c as u64, &mut depth)?;
+    Ok(rows * cols * depth as usize)
 }
 
-fn figures(answer: calls::Reading) -> Result<Reading, Error> {
-    Error::unless_accepted(answer.number, answer.index)?;
+/// A reading that this call makes.
+fn read(call: impl FnOnce(&mut Figures, &mut Items) -> Result<(), Error>) -> Result<Reading, Error> {
+    let (mut figures, mut items) = (Figures::default(), Items::default());
+    call(&mut figures, &mut items)?;
     Ok(Reading {
-        over: answer.over,
-        under: answer.under,
-        linear: answer.linear,
-        fraction: answer.fraction,
-        over_items: answer.over_items,
-        under_items: answer.under_items,
+        over: figures.over,
+        under: figures.under,
+        linear: figures.linear,
+        fraction: figures.fraction,
+        over_items: items.over,
+        under_items: items.under,
     })
 }
