@@ -51,11 +51,13 @@ fn columns_of(code: &str) -> [u32; ROWS] {
 /// the crossing in the same call may zoom it in again, so that the zoom after that call does not tell.
 fn raise_peaks(counter: &MicroCm, peaks: &mut Peaks) -> Result<(), Box<dyn Error>> {
     let pixel = counter.sub_window() as usize % (T + 2);
-    let top = calls::base_max_zoom(C).value;
+    let mut top = 0;
+    calls::base_max_zoom(C as u64, &mut top)?;
     for (code, peak) in CODES.iter().zip(peaks) {
         for (row, col) in columns_of(code).into_iter().enumerate() {
             let cell = counter.bucket_slice(row, col as usize)?;
-            let zoom = calls::cell_zoom(cell, T, C).value;
+            let mut zoom = 0;
+            calls::cell_zoom(cell, T as u64, C as u64, &mut zoom)?;
             *peak = (*peak).max(zoom + (cell[pixel] == 255 && zoom < top) as u64);
         }
     }

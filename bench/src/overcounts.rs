@@ -207,7 +207,9 @@ fn collisions() -> Result<(), Error> {
     println!("|{}", "---|".repeat(13));
     for (rows, cols) in [(1, 64), (2, 64), (4, 64), (1, 256), (4, 256), (2, 1024), (4, 1024)] {
         let grid = Grid { rows, cols, hashing: own };
-        let bytes = rows * cols * calls::depth(T, C).value as usize;
+        let mut depth = 0;
+        calls::depth(T as u64, C as u64, &mut depth)?;
+        let bytes = rows * cols * depth as usize;
         for keys in [50, 200, 1000, 5000] {
             print!("| {rows} × {cols} | {bytes} | {keys} |");
             for traffic in [Traffic::Equal, Traffic::Zipf] {
