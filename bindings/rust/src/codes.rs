@@ -4,7 +4,8 @@
 
 use crate::Error;
 use crate::calls::{self, Asked, KEPT_COLUMNS, MOST_CODES, Sketch, Watch};
-use std::fmt;
+use alloc::boxed::Box;
+use core::fmt;
 
 /// Columns and limits, of this size whatever the sketch.
 #[derive(Clone)]

@@ -5,9 +5,14 @@
 //!
 //! The counting is done by libmicroscope.a, whose every call is proved to be what its definition says. This wrapper is
 //! tested only; docs/EDGE.md says where the line runs.
+//!
+//! It needs no standard library: [`MicroCm`] allocates its grid and the memory for codes, [`calls`] allocate nothing.
 
+#![no_std]
 #![deny(unsafe_code)]
 #![warn(missing_docs, clippy::undocumented_unsafe_blocks)]
+
+extern crate alloc;
 
 // `forbid` at the root could not be lifted for the one module that needs it, so each of the others has its own.
 #[allow(unsafe_code)]

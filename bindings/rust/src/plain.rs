@@ -2,7 +2,7 @@
 
 #![forbid(unsafe_code)]
 
-use std::mem::{offset_of, size_of};
+use core::mem::{offset_of, size_of};
 
 /// The version of the library that these declarations go with; [`version`](crate::calls::version) gives that of the one
 /// that was linked.

@@ -2,7 +2,7 @@
 
 #![forbid(unsafe_code)]
 
-use std::fmt;
+use core::fmt;
 
 /// A refused call: nothing was changed. Prints the number and its meaning, and with 14 the cell.
 ///
@@ -154,4 +154,4 @@ impl fmt::Display for Refusal {
     }
 }
 
-impl std::error::Error for Refusal {}
+impl core::error::Error for Refusal {}

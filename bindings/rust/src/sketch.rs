@@ -5,6 +5,8 @@
 use crate::calls::{self, Change, Figures, Found, Items, KEPT_COLUMNS, MOST_CODES, Sketch, Value, Watch};
 use crate::codes::Codes;
 use crate::{Error, Refusal, SubWindowClock};
+use alloc::vec;
+use alloc::vec::Vec;
 
 /// The shape of a cell.
 #[derive(Clone, Copy, Debug, PartialEq, Eq)]
