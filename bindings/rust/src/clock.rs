@@ -5,6 +5,15 @@
 use crate::plain::{ITEMS, Sketch, TIME};
 
 /// The clock of a sketch, under the published names.
+///
+/// ```
+/// use microscope::SubWindowClock;
+///
+/// let clock = SubWindowClock::TimeBased { sub_window_len: 60, epoch: 1000, now: 1075 };
+/// assert_eq!(clock.n(), 1);
+/// assert_eq!(clock.residual_fraction(), 0.75);
+/// assert_eq!(SubWindowClock::time_based(60, 1000).n(), 0);
+/// ```
 #[derive(Clone, Copy, Debug, PartialEq, Eq)]
 pub enum SubWindowClock {
     /// A sub-window is a number of items.

@@ -28,4 +28,13 @@ pub use refusal::Refusal;
 pub use sketch::{MicroCm, MicroParams, Reading};
 
 /// A refusal, by the name that errors usually have.
+///
+/// ```
+/// use microscope::{Error, MicroCm};
+///
+/// fn over(store: &[u8], key: &[u32]) -> Result<u64, Error> {
+///     Ok(MicroCm::load(store)?.estimate(key)?.over_items)
+/// }
+/// assert_eq!(over(&[], &[17, 5]), Err(Error::StoreLength));
+/// ```
 pub type Error = Refusal;

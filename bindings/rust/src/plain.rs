@@ -21,6 +21,17 @@ pub const MOST_CODES: usize = 64;
 pub const KEPT_COLUMNS: usize = 8192;
 
 /// A sketch without its grid. Once it was made only `reading` and `state` ever change.
+///
+/// ```
+/// use microscope::calls::{self, Change, Sketch, Watch};
+///
+/// let (mut sketch, mut watch) = (Sketch::default(), Watch::default());
+/// let mut grid = [0; 2 * 64 * 20]; // rows x cols x depth: of t = 12 that is 20
+/// calls::new(&mut sketch, &mut watch, 2, 64, 12, 2, calls::ITEMS, 1000, 0, 1, &mut grid)?;
+/// calls::update(&mut sketch, &[17, 5], &mut grid, &mut Change::default())?;
+/// assert_eq!(sketch.reading, 1);
+/// # Ok::<(), microscope::Refusal>(())
+/// ```
 #[repr(C)]
 #[derive(Clone, Copy, Debug, Default, PartialEq, Eq)]
 pub struct Sketch {
@@ -45,6 +56,18 @@ pub struct Sketch {
 }
 
 /// Watched codes without their columns and limits; the default is no codes.
+///
+/// ```
+/// use microscope::calls::{self, KEPT_COLUMNS, MOST_CODES, Sketch, Watch};
+///
+/// # let (mut sketch, mut watch) = (Sketch::default(), Watch::default());
+/// # let mut grid = [0; 2 * 64 * 20];
+/// # calls::new(&mut sketch, &mut watch, 2, 64, 12, 2, calls::ITEMS, 1000, 0, 1, &mut grid)?;
+/// let (mut columns, mut limits) = ([0; KEPT_COLUMNS], [0; MOST_CODES]);
+/// calls::set_codes(&sketch, &mut watch, &[17, 5, 9, 30], &[100, 20], &mut columns, &mut limits)?;
+/// assert_eq!(watch, Watch { count: 2, rows: 2, reached: 0 });
+/// # Ok::<(), microscope::Refusal>(())
+/// ```
 #[repr(C)]
 #[derive(Clone, Copy, Debug, Default, PartialEq, Eq)]
 pub struct Watch {
@@ -57,6 +80,23 @@ pub struct Watch {
 }
 
 /// What a call that may change a sketch or a cell tells.
+///
+/// ```
+/// use microscope::Refusal;
+/// use microscope::calls::{self, Change, Sketch, Watch};
+///
+/// # let (mut sketch, mut watch) = (Sketch::default(), Watch::default());
+/// # let mut grid = [0; 2 * 64 * 20];
+/// # calls::new(&mut sketch, &mut watch, 2, 64, 12, 2, calls::ITEMS, 1000, 0, 1, &mut grid)?;
+/// let mut change = Change::default();
+/// calls::update(&mut sketch, &[17, 5], &mut grid, &mut change)?;
+/// assert_eq!(change.draws, 0); // no cell has zoomed yet
+///
+/// grid[(17 * 20) + 14] = 255; // the zoom of the cell at row 0, column 17
+/// let answer = calls::update(&mut sketch, &[17, 5], &mut grid, &mut change);
+/// assert_eq!((answer, change.index), (Err(Refusal::Unsound { index: 17 }), 17));
+/// # Ok::<(), microscope::Refusal>(())
+/// ```
 #[repr(C)]
 #[derive(Clone, Copy, Debug, Default, PartialEq, Eq)]
 pub struct Change {
@@ -69,6 +109,19 @@ pub struct Change {
 }
 
 /// One reading of a key, in items; all 0 if refused.
+///
+/// ```
+/// use microscope::calls::{self, Change, Figures, Items, Sketch, Watch};
+///
+/// # let (mut sketch, mut watch) = (Sketch::default(), Watch::default());
+/// # let mut grid = [0; 2 * 64 * 20];
+/// # calls::new(&mut sketch, &mut watch, 2, 64, 12, 2, calls::ITEMS, 1000, 0, 1, &mut grid)?;
+/// calls::update(&mut sketch, &[17, 5], &mut grid, &mut Change::default())?;
+/// let (mut figures, mut items) = (Figures::default(), Items::default());
+/// calls::estimate(&sketch, &[17, 5], &grid, &mut figures, &mut items)?;
+/// assert_eq!((figures.over, figures.under, figures.linear), (1.0, 1.0, 1.0));
+/// # Ok::<(), microscope::Refusal>(())
+/// ```
 #[repr(C)]
 #[derive(Clone, Copy, Debug, Default, PartialEq)]
 pub struct Figures {
@@ -83,6 +136,19 @@ pub struct Figures {
 }
 
 /// The same reading as whole numbers, below 2^53.
+///
+/// ```
+/// use microscope::calls::{self, Change, Figures, Items, Sketch, Watch};
+///
+/// # let (mut sketch, mut watch) = (Sketch::default(), Watch::default());
+/// # let mut grid = [0; 2 * 64 * 20];
+/// # calls::new(&mut sketch, &mut watch, 2, 64, 12, 2, calls::ITEMS, 1000, 0, 1, &mut grid)?;
+/// calls::update(&mut sketch, &[17, 5], &mut grid, &mut Change::default())?;
+/// let (mut figures, mut items) = (Figures::default(), Items::default());
+/// calls::estimate(&sketch, &[17, 5], &grid, &mut figures, &mut items)?;
+/// assert_eq!(items, Items { index: 0, over: 1, under: 1 });
+/// # Ok::<(), microscope::Refusal>(())
+/// ```
 #[repr(C)]
 #[derive(Clone, Copy, Debug, Default, PartialEq, Eq)]
 pub struct Items {
@@ -95,6 +161,21 @@ pub struct Items {
 }
 
 /// A whole number; 0 if refused.
+///
+/// ```
+/// use microscope::calls::{self, Change, Sketch, Value, Watch};
+///
+/// # let (mut sketch, mut watch) = (Sketch::default(), Watch::default());
+/// # let mut grid = [0; 2 * 64 * 20];
+/// # calls::new(&mut sketch, &mut watch, 2, 64, 12, 2, calls::ITEMS, 1000, 0, 1, &mut grid)?;
+/// for _ in 0..12 {
+///     calls::update(&mut sketch, &[17, 5], &mut grid, &mut Change::default())?;
+/// }
+/// let mut mean = Value::default();
+/// calls::mean(&sketch, &[17, 5], &grid, &mut mean)?;
+/// assert_eq!(mean.value, 1); // 12 items by 12 sub-windows
+/// # Ok::<(), microscope::Refusal>(())
+/// ```
 #[repr(C)]
 #[derive(Clone, Copy, Debug, Default, PartialEq, Eq)]
 pub struct Value {
@@ -105,6 +186,19 @@ pub struct Value {
 }
 
 /// What an audit found.
+///
+/// ```
+/// use microscope::calls::{self, Found, Sketch, Watch};
+///
+/// # let (mut sketch, mut watch) = (Sketch::default(), Watch::default());
+/// # let mut grid = [0; 2 * 64 * 20];
+/// # calls::new(&mut sketch, &mut watch, 2, 64, 12, 2, calls::ITEMS, 1000, 0, 1, &mut grid)?;
+/// grid[(17 * 20) + 14] = 255; // the zoom of the cell at row 0, column 17
+/// let mut found = Found::default();
+/// calls::audit(&sketch, &grid, &mut found)?;
+/// assert_eq!(found, Found { index: 17, unsound: 1 });
+/// # Ok::<(), microscope::Refusal>(())
+/// ```
 #[repr(C)]
 #[derive(Clone, Copy, Debug, Default, PartialEq, Eq)]
 pub struct Found {
@@ -115,6 +209,22 @@ pub struct Found {
 }
 
 /// What an asking tells beside the bytes of its list.
+///
+/// ```
+/// use microscope::calls::{self, Asked, Change, KEPT_COLUMNS, MOST_CODES, Sketch, Watch};
+///
+/// # let (mut sketch, mut watch) = (Sketch::default(), Watch::default());
+/// # let mut grid = [0; 2 * 64 * 20];
+/// # calls::new(&mut sketch, &mut watch, 2, 64, 12, 2, calls::ITEMS, 1000, 0, 1, &mut grid)?;
+/// let (mut columns, mut limits) = ([0; KEPT_COLUMNS], [0; MOST_CODES]);
+/// calls::set_codes(&sketch, &mut watch, &[17, 5, 9, 30], &[100, 1], &mut columns, &mut limits)?;
+/// calls::update(&mut sketch, &[9, 30], &mut grid, &mut Change::default())?;
+///
+/// let (mut list, mut asked) = ([0; MOST_CODES], Asked::default());
+/// calls::ask(&sketch, &mut watch, &columns, &limits, &grid, &mut list, &mut asked)?;
+/// assert_eq!(list[..asked.listed as usize], [1]);
+/// # Ok::<(), microscope::Refusal>(())
+/// ```
 #[repr(C)]
 #[derive(Clone, Copy, Debug, Default, PartialEq, Eq)]
 pub struct Asked {

@@ -8,6 +8,17 @@ use core::fmt;
 ///
 /// The variants are named after the enumeration in include/microscope.h, which says more of each. If more than one
 /// applies it is the one that comes first in this order of their numbers: 1 to 7, 19, 20, 8 to 18.
+///
+/// ```
+/// use microscope::{MicroCm, MicroParams, Refusal, SubWindowClock};
+///
+/// let params = MicroParams { t: 12, c: 2 };
+/// let answer = MicroCm::with_dimensions(2, 63, params, SubWindowClock::count_based(1000), 1);
+/// let why = answer.unwrap_err();
+/// assert_eq!(why, Refusal::Dimensions);
+/// assert_eq!((why.number(), why.index()), (4, None));
+/// assert_eq!(Refusal::Unsound { index: 17 }.to_string(), "refused by 14: unsound cell 17");
+/// ```
 #[derive(Clone, Copy, Debug, PartialEq, Eq)]
 #[non_exhaustive]
 pub enum Refusal {

@@ -9,6 +9,16 @@ use alloc::vec;
 use alloc::vec::Vec;
 
 /// The shape of a cell.
+///
+/// ```
+/// use microscope::{MicroCm, MicroParams, SubWindowClock};
+///
+/// let params = MicroParams { t: 12, c: 2 };
+/// let counter = MicroCm::with_dimensions(2, 64, params, SubWindowClock::count_based(1000), 1)?;
+/// assert_eq!(counter.params(), params);
+/// assert_eq!(counter.cell_bytes(), 20);
+/// # Ok::<(), microscope::Refusal>(())
+/// ```
 #[derive(Clone, Copy, Debug, PartialEq, Eq)]
 pub struct MicroParams {
     /// Sub-windows in the window, 1 to 4,096.
@@ -18,6 +28,22 @@ pub struct MicroParams {
 }
 
 /// The figures of a key, in items.
+///
+/// ```
+/// use microscope::{MicroCm, MicroParams, SubWindowClock};
+///
+/// // A window of two sub-windows of 10 seconds, which is read in the middle of the third.
+/// let clock = SubWindowClock::time_based(10, 0);
+/// let mut counter = MicroCm::with_dimensions(2, 64, MicroParams { t: 2, c: 2 }, clock, 1)?;
+/// for second in [3, 9, 12, 25] {
+///     counter.update_at(&[17, 5], second)?;
+/// }
+/// let reading = counter.estimate(&[17, 5])?;
+/// assert_eq!((reading.over, reading.under), (4.0, 2.0));
+/// assert_eq!((reading.linear, reading.fraction), (3.0, 0.5));
+/// assert_eq!((reading.over_items, reading.under_items), (4, 2));
+/// # Ok::<(), microscope::Refusal>(())
+/// ```
 #[derive(Clone, Copy, Debug, PartialEq)]
 pub struct Reading {
     /// The t latest sub-windows and the one before them: the published `DeltaStrategy::Over`.
@@ -39,6 +65,23 @@ pub struct Reading {
 ///
 /// It may watch up to 64 codes, which are keys with a limit. A fresh or loaded sketch watches none; a clone watches the
 /// same, and equal sketches do.
+///
+/// ```
+/// use microscope::{MicroCm, MicroParams, SubWindowClock};
+///
+/// let params = MicroParams { t: 12, c: 2 };
+/// let mut counter = MicroCm::with_dimensions(2, 64, params, SubWindowClock::count_based(1000), 1)?;
+/// counter.set_codes(&[17, 5, 9, 30], &[3, 1])?;
+/// for _ in 0..3 {
+///     counter.update(&[17, 5])?;
+/// }
+/// assert_eq!(counter.estimate(&[17, 5])?.linear, 3.0);
+/// assert_eq!(counter.ask()?, [0]);
+///
+/// let store = counter.save()?;
+/// assert_eq!(MicroCm::load(&store)?.estimate(&[17, 5])?.over_items, 3);
+/// # Ok::<(), microscope::Refusal>(())
+/// ```
 #[derive(Clone, Debug, PartialEq, Eq)]
 pub struct MicroCm {
     sketch: Sketch,
