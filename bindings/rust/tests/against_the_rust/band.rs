@@ -189,8 +189,10 @@ fn to_full(dice: &mut Dice, watched: &Watched, key: &[u32]) -> u64 {
     let ours = &watched.ours;
     let cell = ours.bucket_slice(0, key[0] as usize).expect("a cell");
     let MicroParams { t, c } = ours.params();
-    let unit = judge::unit(c as u16, called(calls::cell_zoom(cell, t, c)).value as u8);
-    let shutter = called(calls::cell_shutter(cell, t, c)).value;
+    let (mut zoom, mut shutter) = (0, 0);
+    called(calls::cell_zoom(cell, t as u64, c as u64, &mut zoom)).expect("a sound cell");
+    called(calls::cell_shutter(cell, t as u64, c as u64, &mut shutter)).expect("a sound cell");
+    let unit = judge::unit(c as u16, zoom as u8);
     let pixel = cell[ours.sub_window() as usize % (t + 2)] as u64;
     let beyond = dice.one_of(&[0, 1, unit / 2, unit - 1, unit]);
     (unit * (255 - pixel) + beyond).saturating_sub(shutter)

@@ -2,16 +2,19 @@
 
 use crate::beside::{shutter_at, zoom_at};
 use crate::choose::Dice;
+use crate::held::WIDE;
 use crate::judge;
+use crate::junk;
 use crate::layout;
 use crate::numbers::{self, Causes};
-use crate::score::{Outcome, called, same, same_bytes, same_number};
-use microscope::calls::{self, Drawn};
+use crate::plain_calls::{Answer, told as answered};
+use crate::score::{Outcome, called, same, same_bytes, unchanged};
+use microscope::calls::{self, Change};
 
 /// What a call on one cell is told.
 struct Told {
-    t: usize,
-    c: u32,
+    t: u64,
+    c: u64,
     cell: Vec<u8>,
     state: u64,
 }
@@ -24,8 +27,8 @@ impl Told {
     fn new(dice: &mut Dice) -> Self {
         let (t, c) = (dice.sub_windows(), dice.base());
         Self {
-            t: t as usize,
-            c: c as u32,
+            t: t as u64,
+            c: c as u64,
             cell: cell(dice, t, c),
             state: dice.state(),
         }
@@ -40,7 +43,8 @@ impl Told {
     }
 }
 
-fn spoil_cell(dice: &mut Dice, t: usize, cell: &mut Vec<u8>) {
+fn spoil_cell(dice: &mut Dice, t: u64, cell: &mut Vec<u8>) {
+    let t = t as usize;
     match dice.below(4) {
         0 => cell.push(0),
         1 => drop(cell.pop()),
@@ -51,85 +55,94 @@ fn spoil_cell(dice: &mut Dice, t: usize, cell: &mut Vec<u8>) {
 
 fn spoil(dice: &mut Dice, told: &mut Told) {
     match dice.below(4) {
-        0 => told.t = dice.one_of(&[0, 4097, usize::MAX, usize::MAX - 6]),
-        1 => told.c = dice.one_of(&[0, 1, 257, u32::MAX]),
+        0 => told.t = dice.one_of(&[0, 4097, WIDE + 1, u64::MAX, u64::MAX - 6]),
+        1 => told.c = dice.one_of(&[0, 1, 257, u32::MAX as u64, WIDE, WIDE + 2, u64::MAX]),
         2 => told.state = 0,
         _ => spoil_cell(dice, told.t, &mut told.cell),
     }
 }
 
-/// A cell after a call: as the Rust left it, with its own pads, or if refused as it was.
+/// A cell after a call: as the Rust left it, with its own pads, or if refused as it was, and so the state.
 fn left(
-    answer: Drawn,
-    causes: Causes,
-    bytes: &[u8],
     told: &Told,
-    call: impl FnOnce(u16, u16) -> judge::After,
+    causes: Causes,
+    call: impl FnOnce(&mut [u8], &mut u64, &mut Change) -> Answer,
+    theirs: impl FnOnce(u16, u16) -> judge::After,
 ) -> Outcome {
+    let (mut bytes, mut state, mut change) = (told.cell.clone(), told.state, junk::CHANGE);
+    let answer = called(call(&mut bytes, &mut state, &mut change));
     let right = numbers::first(&causes);
-    same_number("number", answer.number, right)?;
-    same("index", answer.index, 0)?;
-    let drawn = (answer.state, answer.draws);
+    answered("number", answer, right, 0)?;
     if right != 0 {
-        same("state and draws of a refusal", drawn, (told.state, 0))?;
-        return same_bytes("the cell of a refusal", bytes, &told.cell);
+        same("what a refusal tells", change, Change::default())?;
+        same("the state of a refusal", state, told.state)?;
+        return same_bytes("the cell of a refusal", &bytes, &told.cell);
     }
     let (t, c) = told.small();
-    let after = call(t, c);
-    same("state and draws", drawn, (after.state, after.draws))?;
-    layout::same_cells("the cell", told.t, bytes, &after.cell)?;
-    layout::same_pads(told.t, bytes, &told.cell)
+    let after = theirs(t, c);
+    let change_right = Change {
+        draws: after.draws,
+        ..Change::default()
+    };
+    same("state and what is told", (state, change), (after.state, change_right))?;
+    layout::same_cells("the cell", told.t, &bytes, &after.cell)?;
+    layout::same_pads(told.t, &bytes, &told.cell)
 }
 
 fn insert(told: &Told, n: u64) -> Outcome {
-    let mut bytes = told.cell.clone();
-    let answer = called(calls::cell_insert(&mut bytes, told.t, told.c, n, told.state));
     let causes = numbers::change(told.t, told.c, told.state, None, &[&told.cell]);
-    left(answer, causes, &bytes, told, |t, c| {
-        judge::insert(t, c, n, told.state, &told.theirs())
-    })
+    left(
+        told,
+        causes,
+        |cell, state, change| calls::cell_insert(cell, told.t, told.c, n, state, change),
+        |t, c| judge::insert(t, c, n, told.state, &told.theirs()),
+    )
 }
 
 fn enter(dice: &mut Dice, told: &Told, n: u64) -> Outcome {
     let crossed = match dice.below(4) {
         0 => dice.any_size(),
         1 => n,
-        _ => dice.below(told.t.min(4096) as u64 + 4),
+        _ => dice.below(told.t.min(4096) + 4),
     };
-    let mut bytes = told.cell.clone();
-    let answer = called(calls::cell_enter_sub_window(
-        &mut bytes, told.t, told.c, n, crossed, told.state,
-    ));
     let causes = numbers::change(told.t, told.c, told.state, Some((n, crossed)), &[&told.cell]);
-    left(answer, causes, &bytes, told, |t, c| {
-        judge::enter(t, c, n, crossed, told.state, &told.theirs())
-    })
+    left(
+        told,
+        causes,
+        |cell, state, change| calls::cell_enter_sub_window(cell, told.t, told.c, n, crossed, state, change),
+        |t, c| judge::enter(t, c, n, crossed, told.state, &told.theirs()),
+    )
 }
 
 fn merge(dice: &mut Dice, told: &Told, n: u64, mut src: Vec<u8>) -> Outcome {
-    if dice.chance(10) && told.t <= 4096 && src.len() >= shutter_at(told.t).end {
+    if dice.chance(10) && told.t <= 4096 && src.len() >= shutter_at(told.t as usize).end {
         spoil_cell(dice, told.t, &mut src);
     }
-    let kept = src.clone();
-    let mut bytes = told.cell.clone();
-    let answer = called(calls::cell_merge(&mut bytes, &src, told.t, told.c, n, told.state));
+    let lent = src.clone();
     let causes = numbers::change(told.t, told.c, told.state, None, &[&told.cell, &src]);
-    same_bytes("the cell merged from", &src, &kept)?;
-    left(answer, causes, &bytes, told, |t, c| {
-        judge::merge(t, c, n, told.state, &told.theirs(), &layout::to_theirs(told.t, &src))
-    })
+    left(
+        told,
+        causes,
+        |dst, state, change| calls::cell_merge(dst, &lent, told.t, told.c, n, state, change),
+        |t, c| judge::merge(t, c, n, told.state, &told.theirs(), &layout::to_theirs(told.t, &src)),
+    )?;
+    unchanged("the cell merged from", &lent, &src)
 }
 
 fn fields(told: &Told, n: u64) -> Outcome {
-    let (t, c, cell) = (told.t, told.c, &told.cell);
-    let right = numbers::first(&numbers::one_cell(t, c, cell));
-    let zoom = called(calls::cell_zoom(cell, t, c));
-    let shutter = called(calls::cell_shutter(cell, t, c));
-    let pixel = called(calls::cell_scaled_pixel(cell, t, c, n));
-    let verdict = called(calls::cell_check(cell, t, c));
-    let numbers = [zoom.number, shutter.number, pixel.number, verdict.number];
-    same("numbers", numbers, [right; 4])?;
-    let values = (zoom.value, shutter.value, pixel.value.to_bits());
+    let (t, c, cell) = (told.t, told.c, told.cell.clone());
+    let right = numbers::first(&numbers::one_cell(t, c, &told.cell));
+    let (mut zoom, mut shutter, mut pixel) = (junk::WORD, junk::WORD, junk::FIGURE);
+    for answer in [
+        called(calls::cell_zoom(&cell, t, c, &mut zoom)),
+        called(calls::cell_shutter(&cell, t, c, &mut shutter)),
+        called(calls::cell_scaled_pixel(&cell, t, c, n, &mut pixel)),
+        called(calls::cell_check(&cell, t, c)),
+    ] {
+        answered("the cell's number", answer, right, 0)?;
+    }
+    unchanged("the cell lent", &cell, &told.cell)?;
+    let values = (zoom, shutter, pixel.to_bits());
     if right != 0 {
         return same("refused values", values, (0, 0, 0));
     }
@@ -139,16 +152,18 @@ fn fields(told: &Told, n: u64) -> Outcome {
 }
 
 fn settings(told: &Told) -> Outcome {
-    let depth = called(calls::depth(told.t, told.c));
+    let mut depth = junk::WORD;
+    let answer = called(calls::depth(told.t, told.c, &mut depth));
     let right = numbers::first(&numbers::params(told.t, told.c));
-    same_number("the depth's number", depth.number, right)?;
+    answered("the depth's number", answer, right, 0)?;
     let bytes = if right == 0 { layout::right_depth(told.t) } else { 0 };
-    same("depth", depth.value, bytes as u64)?;
-    let zoom = called(calls::base_max_zoom(told.c));
+    same("depth", depth, bytes as u64)?;
+    let mut zoom = junk::WORD;
+    let answer = called(calls::base_max_zoom(told.c, &mut zoom));
     let known = (2..=256).contains(&told.c);
-    same_number("the largest zoom's number", zoom.number, if known { 0 } else { 2 })?;
+    answered("the largest zoom's number", answer, if known { 0 } else { 2 }, 0)?;
     let largest = if known { judge::max_zoom(told.c as u16) } else { 0 };
-    same("largest zoom", zoom.value, largest as u64)
+    same("largest zoom", zoom, largest as u64)
 }
 
 pub fn story(dice: &mut Dice) -> Outcome {

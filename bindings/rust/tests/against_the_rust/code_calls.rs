@@ -4,8 +4,9 @@
 use crate::codes;
 use crate::held::{Held, published};
 use crate::hits;
-use crate::plain_calls::Told;
-use crate::score::{Outcome, called, same, same_bytes, same_each, same_number};
+use crate::junk;
+use crate::plain_calls::{Told, told as answered};
+use crate::score::{Outcome, called, same, same_each, unchanged, unchanged_one};
 use microscope::calls::{self, KEPT_COLUMNS, MOST_CODES, Sketch, Watch};
 use std::cell::Cell;
 
@@ -27,10 +28,10 @@ impl Kept {
     }
 
     /// The same once these codes were set for a sketch of so many rows.
-    fn with(&self, rows: usize, columns: &[u32], limits: &[u64]) -> Self {
+    fn with(&self, rows: u64, columns: &[u32], limits: &[u64]) -> Self {
         let mut kept = self.clone();
         kept.watch = Watch {
-            count: limits.len(),
+            count: limits.len() as u64,
             rows,
             reached: 0,
         };
@@ -103,8 +104,8 @@ pub fn setting(s: &Sketch, kept: &Kept, columns: &[u32], limits: &[u64]) -> (u64
 #[derive(Debug, PartialEq)]
 pub struct Asked {
     pub number: u64,
-    pub index: usize,
-    pub listed: usize,
+    pub index: u64,
+    pub listed: u64,
     pub watch: Watch,
     pub list: Vec<u8>,
 }
@@ -122,7 +123,7 @@ pub fn asking(s: &Sketch, kept: &Kept, grid: &[u8], list: &[u8], ask: impl FnOnc
         let named = (number == 14).then(|| codes::named(s, watch, &columns[..], grid));
         return Asked {
             number,
-            index: named.flatten().unwrap_or(0),
+            index: named.flatten().unwrap_or(0) as u64,
             listed: 0,
             watch: *watch,
             list: list.to_vec(),
@@ -130,13 +131,13 @@ pub fn asking(s: &Sketch, kept: &Kept, grid: &[u8], list: &[u8], ask: impl FnOnc
     }
     let (listed, reached) = ask();
     count(|counts| {
-        counts.codes += watch.count as u64;
+        counts.codes += watch.count;
         counts.listed += listed.len() as u64;
     });
     Asked {
         number,
         index: 0,
-        listed: listed.len(),
+        listed: listed.len() as u64,
         watch: Watch { reached, ..*watch },
         list: codes::written(list, &listed),
     }
@@ -144,48 +145,55 @@ pub fn asking(s: &Sketch, kept: &Kept, grid: &[u8], list: &[u8], ask: impl FnOnc
 
 /// Sets codes with plain values.
 pub fn set_codes(held: &Held, kept: &Kept, columns: &[u32], limits: &[u64]) -> Told {
+    let (lent, lent_columns, lent_limits) = (held.sketch, columns.to_vec(), limits.to_vec());
     let mut left = kept.clone();
     let answer = called(calls::set_codes(
-        held.sketch,
-        kept.watch,
-        columns,
-        limits,
+        &lent,
+        &mut left.watch,
+        &lent_columns,
+        &lent_limits,
         &mut left.columns,
         &mut left.limits,
     ));
     let (number, right) = setting(&held.sketch, kept, columns, limits);
-    same_number("the setting's number", answer.number, number)?;
-    same("the setting's index", answer.index, 0)?;
-    right.same_as(answer.watch, &left.columns[..], &left.limits[..])?;
-    Ok((answer.number, answer.index))
+    let told = answered("the setting's number", answer, number, 0)?;
+    right.same_as(left.watch, &left.columns[..], &left.limits[..])?;
+    unchanged_one("the sketch lent", &lent, &held.sketch)?;
+    unchanged("the columns lent", &lent_columns, columns)?;
+    unchanged("the limits lent", &lent_limits, limits)?;
+    Ok(told)
 }
 
 /// Asks with plain values. What is lent to be read only is compared too.
 pub fn ask(held: &Held, kept: &Kept, list: &[u8]) -> Told {
-    let (lent, lent_grid, mut left) = (kept.clone(), held.grid.clone(), list.to_vec());
+    let (mut lent, lent_held, mut left) = (kept.clone(), held.clone(), list.to_vec());
+    let mut asked = junk::ASKED;
     let answer = called(calls::ask(
-        held.sketch,
-        lent.watch,
+        &lent_held.sketch,
+        &mut lent.watch,
         &lent.columns,
         &lent.limits,
-        &lent_grid,
+        &lent_held.grid,
         &mut left,
+        &mut asked,
     ));
     let right = asking(&held.sketch, kept, &held.grid, list, || {
         let mut codes = codes::told(&kept.watch, &kept.columns[..], &kept.limits[..]);
         let listed = codes::asking(&mut codes, &published(held));
         (listed, codes::flags(&codes))
     });
-    same_number("the asking's number", answer.number, right.number)?;
-    let told = Asked {
-        number: answer.number,
-        index: answer.index,
-        listed: answer.listed,
-        watch: answer.watch,
+    let told = answered("the asking's number", answer, right.number, asked.index)?;
+    let left = Asked {
+        number: told.0,
+        index: asked.index,
+        listed: asked.listed,
+        watch: lent.watch,
         list: left,
     };
-    same("the asking", told, right)?;
-    kept.same_as(kept.watch, &lent.columns[..], &lent.limits[..])?;
-    same_bytes("the grid asked of", &lent_grid, &held.grid)?;
-    Ok((answer.number, answer.index))
+    same("the asking", left, right)?;
+    unchanged("the columns kept", &lent.columns[..], &kept.columns[..])?;
+    unchanged("the limits kept", &lent.limits[..], &kept.limits[..])?;
+    unchanged_one("the sketch asked of", &lent_held.sketch, &held.sketch)?;
+    unchanged("the grid asked of", &lent_held.grid, &held.grid)?;
+    Ok(told)
 }

@@ -59,8 +59,8 @@ pub fn new_list(dice: &mut Dice, rows: usize, cols: usize, figure: impl Fn(&[u32
 }
 
 /// A list with marks in it: as long as there are codes, or shorter, or longer.
-pub fn room(dice: &mut Dice, count: usize) -> Vec<u8> {
-    let count = count.min(MOST + 6) as u64;
+pub fn room(dice: &mut Dice, count: u64) -> Vec<u8> {
+    let count = count.min(MOST as u64 + 6);
     let room = match dice.below(20) {
         0 => dice.below(count + 1),
         1 => count.saturating_sub(1),

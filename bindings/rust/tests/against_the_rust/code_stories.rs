@@ -39,7 +39,7 @@ impl Watched {
         let (right, kept) = code_calls::setting(&s, &self.kept, columns, limits);
         same_number("the setting's number", number(&answer), right)?;
         if right == 0 {
-            self.codes = codes::list(s.rows, columns, limits);
+            self.codes = codes::list(s.rows as usize, columns, limits);
         }
         self.kept = kept;
         self.pair.code_bytes = 4 * 8192 + 8 * 64;
@@ -63,7 +63,7 @@ impl Watched {
         let answer = called(self.pair.ours.ask_into(&mut left));
         same_number("the asking's number", number(&answer), right.number)?;
         same("the list", &left, &right.list)?;
-        same("how many are listed", answer.unwrap_or(0), right.listed)
+        same("how many are listed", answer.unwrap_or(0) as u64, right.listed)
     }
 
     pub fn ask(&mut self) -> Result<Vec<usize>, String> {
@@ -71,7 +71,10 @@ impl Watched {
         let answer = called(self.pair.ours.ask());
         same_number("the asking's number", number(&answer), right.number)?;
         let listed = answer.map_err(|why| why.to_string())?;
-        let right: Vec<usize> = right.list[..right.listed].iter().map(|&code| code as usize).collect();
+        let right: Vec<usize> = right.list[..right.listed as usize]
+            .iter()
+            .map(|&code| code as usize)
+            .collect();
         same("the codes listed", &listed, &right)?;
         Ok(listed)
     }
@@ -128,7 +131,7 @@ fn ask(dice: &mut Dice, watched: &mut Watched) -> Outcome {
     if dice.chance(30) {
         return watched.ask().map(drop);
     }
-    watched.ask_into(&room(dice, watched.codes.len()))
+    watched.ask_into(&room(dice, watched.codes.len() as u64))
 }
 
 /// Adds a sketch with codes of its own, of which the receiver takes none; mostly one that can be added.

@@ -66,7 +66,7 @@ pub fn told(watch: &Watch, columns: &[u32], limits: &[u64]) -> Vec<Code> {
     if watch.count == 0 {
         return Vec::new();
     }
-    let mut codes = list(watch.rows, columns, &limits[..watch.count]);
+    let mut codes = list(watch.rows as usize, columns, &limits[..watch.count as usize]);
     let mut flags = watch.reached;
     for code in &mut codes {
         code.was_below = flags % 2 == 0;
@@ -76,7 +76,7 @@ pub fn told(watch: &Watch, columns: &[u32], limits: &[u64]) -> Vec<Code> {
 }
 
 fn out_of_range(s: &Sketch, columns: &[u32]) -> bool {
-    columns.iter().any(|&column| column as usize >= s.cols)
+    columns.iter().any(|&column| column as u64 >= s.cols)
 }
 
 /// 1 to 5, 7 over all codes given, 19. It is lent no grid.
@@ -91,8 +91,8 @@ pub fn setting_causes(s: &Sketch, columns: &[u32], limits: &[u64]) -> Causes {
 /// The columns of the codes that are looked at: of more than 64 codes the first 64. Only what the array holds whole is
 /// there.
 fn looked_at<'a>(s: &Sketch, watch: &Watch, columns: &'a [u32]) -> impl Iterator<Item = &'a [u32]> + use<'a> {
-    let count = if s.rows == 0 { 0 } else { watch.count.min(MOST) };
-    columns.chunks_exact(s.rows.max(1)).take(count)
+    let count = if s.rows == 0 { 0 } else { watch.count.min(MOST as u64) };
+    columns.chunks_exact(s.rows.max(1) as usize).take(count as usize)
 }
 
 /// Codes that do not go with this sketch: of other rows, or with a column that it has not. No codes go with any.
@@ -102,10 +102,10 @@ fn foreign(s: &Sketch, watch: &Watch, columns: &[u32]) -> bool {
 
 /// The unsound cells of all the codes, by the order of the codes.
 fn unsound<'a>(s: &'a Sketch, watch: &Watch, columns: &'a [u32], grid: &'a [u8]) -> impl Iterator<Item = usize> + 'a {
-    let cells = looked_at(s, watch, columns).flat_map(|code| code.iter().map(|&column| column as usize).enumerate());
+    let cells = looked_at(s, watch, columns).flat_map(|code| (0..).zip(code.iter().map(|&column| column as u64)));
     cells
         .filter(|&(_, column)| column < s.cols)
-        .map(|(row, column)| row.saturating_mul(s.cols).saturating_add(column))
+        .map(|(row, column)| numbers::cell_at(s, row, column))
         .filter(|&index| numbers::unsound_at(s, grid, index))
 }
 
@@ -120,8 +120,8 @@ pub fn asking_causes(s: &Sketch, watch: &Watch, columns: &[u32], grid: &[u8], ro
         numbers::with_grid(s, grid),
         [
             (7, foreign(s, watch, columns)),
-            (19, watch.count > MOST),
-            (20, room < watch.count),
+            (19, watch.count > MOST as u64),
+            (20, (room as u64) < watch.count),
             (14, unsound(s, watch, columns, grid).next().is_some()),
         ],
     )

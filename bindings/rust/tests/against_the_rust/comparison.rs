@@ -17,6 +17,7 @@ mod damage;
 mod directed;
 mod held;
 mod hits;
+mod junk;
 mod layout;
 mod load_order;
 mod numbers;

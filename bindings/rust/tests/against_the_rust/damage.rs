@@ -2,10 +2,11 @@
 
 use crate::choose::Dice;
 use crate::hits;
+use crate::junk;
 use crate::load_order;
 use crate::numbers;
-use crate::plain_calls::Told;
-use crate::score::{Outcome, called, number, same, same_bytes, same_number};
+use crate::plain_calls::{self, Told};
+use crate::score::{Outcome, called, number, same, same_bytes, same_number, unchanged};
 use crate::stores::{self, BLOCK};
 use crate::stories;
 use microscope::{MicroCm, calls};
@@ -55,23 +56,29 @@ fn harm(dice: &mut Dice, store: &mut Vec<u8>) {
     }
 }
 
-/// A load into a grid of this length, by the number that a load's own order gives. If it is refused, no byte of the
-/// grid is written.
-pub fn load(store: &[u8], grid: usize) -> Told {
-    let mut lent = vec![0xA5; grid];
-    let answer = called(calls::load(&mut lent, store));
-    let right = hits::number("load", &load_order::load(store, Some(grid)));
-    same_number("the load's number", answer.number, right)?;
-    same("the codes of a load", answer.watch, calls::Watch::default())?;
+/// A load into a grid of this length, by the number that a load's own order gives. If it is refused, no word of the
+/// sketch and the codes and no byte of the grid is written.
+pub fn load(store: &[u8], bytes: usize) -> Told {
+    let lent = store.to_vec();
+    let (mut sketch, mut watch) = (junk::SKETCH, junk::WATCH);
+    let (mut grid, mut index) = (vec![junk::BYTE; bytes], junk::WORD);
+    let answer = called(calls::load(&mut sketch, &mut watch, &mut grid, &lent, &mut index));
+    let right = hits::number("load", &load_order::load(store, Some(bytes)));
+    let told = plain_calls::told("the load's number", answer, right, index)?;
+    unchanged("the store lent", &lent, store)?;
+    let named = right != 14 && index == 0 || right == 14 && load_order::unsound_at(store, index as usize);
+    same("an unsound cell is named with 14, and else none", named, true)?;
     if right == 0 {
         let ours = called(MicroCm::load(store)).map_err(|why| why.to_string())?;
-        same("the sketch loaded", answer.sketch, ours.plain())?;
-        same_bytes("the grid loaded", &lent, ours.grid())?;
+        same("the sketch loaded", sketch, ours.plain())?;
+        same("the codes of a load", watch, calls::Watch::default())?;
+        same_bytes("the grid loaded", &grid, ours.grid())?;
     } else {
-        same("the sketch refused", answer.sketch, calls::Sketch::default())?;
-        same_bytes("the grid lent", &lent, &vec![0xA5; grid])?;
+        same("the sketch of a refusal", sketch, junk::SKETCH)?;
+        same("the codes of a refusal", watch, junk::WATCH)?;
+        same_bytes("the grid of a refusal", &grid, &vec![junk::BYTE; bytes])?;
     }
-    Ok((answer.number, answer.index))
+    Ok(told)
 }
 
 /// A store is refused by this number and, but for the grid's length, by the wrapper too.

@@ -18,11 +18,11 @@ pub struct Held {
 
 pub fn sketch_of(settings: &Settings, reading: u64, state: u64) -> Sketch {
     Sketch {
-        rows: settings.rows as usize,
-        cols: settings.cols as usize,
-        t: settings.t as usize,
-        c: settings.c as u32,
-        kind: settings.timed as u32,
+        rows: settings.rows as u64,
+        cols: settings.cols as u64,
+        t: settings.t as u64,
+        c: settings.c as u64,
+        kind: settings.timed as u64,
         length: settings.length,
         epoch: if settings.timed { settings.epoch } else { 0 },
         reading,
@@ -37,25 +37,29 @@ fn spoil_cell(dice: &mut Dice, held: &mut Held) {
     let cells = held.grid.len() / depth;
     let at = dice.below(cells as u64) as usize * depth;
     let cell = &mut held.grid[at..];
-    let unit = numbers::unit(c, cell[zoom_at(t)]).expect("a sound cell");
+    let (zoom, shutter) = (zoom_at(t as usize), shutter_at(t as usize));
+    let unit = numbers::unit(c, cell[zoom]).expect("a sound cell");
     if dice.chance(50) {
-        cell[zoom_at(t)] = dice.one_of(&[judge::max_zoom(c as u16) + 1, 255]);
+        cell[zoom] = dice.one_of(&[judge::max_zoom(c as u16) + 1, 255]);
     } else {
-        let shutter = dice.one_of(&[unit, u32::MAX as u64]) as u32;
-        cell[shutter_at(t)].copy_from_slice(&shutter.to_le_bytes());
+        let items = dice.one_of(&[unit, u32::MAX as u64]) as u32;
+        cell[shutter].copy_from_slice(&items.to_le_bytes());
     }
 }
 
+/// Above all that fits 32 bits: a setting of this and some more is not to be taken for the rest.
+pub const WIDE: u64 = 1 << 32;
+
 fn spoil_setting(dice: &mut Dice, s: &mut Sketch) {
     match dice.below(9) {
-        0 => s.t = dice.one_of(&[0, 4097, 65_537, usize::MAX, 1 << 32]),
-        1 => s.c = dice.one_of(&[0, 1, 257, u32::MAX]),
-        2 => s.kind = dice.one_of(&[2, 3, 256, u32::MAX]),
+        0 => s.t = dice.one_of(&[0, 4097, 65_537, u64::MAX, WIDE, WIDE + 1]),
+        1 => s.c = dice.one_of(&[0, 1, 257, u32::MAX as u64, WIDE, WIDE + 2, WIDE + 256, u64::MAX]),
+        2 => s.kind = dice.one_of(&[2, 3, 256, u32::MAX as u64, WIDE, WIDE + 1, u64::MAX]),
         3 => s.length = dice.one_of(&[0, (1 << 53) + 1, u64::MAX]),
-        4 => s.rows = dice.one_of(&[0, 129, usize::MAX, 1 << 32, 1 << 63]),
-        5 => s.cols = dice.one_of(&[0, 1, 3, 6, 131_072, 1 << 63, usize::MAX]),
+        4 => s.rows = dice.one_of(&[0, 129, u64::MAX, WIDE, WIDE + 1, 1 << 63]),
+        5 => s.cols = dice.one_of(&[0, 1, 3, 6, 131_072, 1 << 63, WIDE, WIDE + 2, u64::MAX]),
         6 => s.state = 0,
-        7 => s.rows = dice.within(1, 130) as usize,
+        7 => s.rows = dice.within(1, 130),
         _ => s.cols = 1 << dice.within(1, 17),
     }
 }
@@ -115,12 +119,12 @@ pub fn published(held: &Held) -> judge::Sketch {
 }
 
 /// With 14 an unsound cell is named, with any other number none.
-pub fn names(number: u64, index: usize, held: &[&Held]) -> Outcome {
+pub fn names(number: u64, index: u64, held: &[&Held]) -> Outcome {
     if number != 14 {
         return same("index", index, 0);
     }
     let named = held
         .iter()
-        .any(|held| numbers::unsound_at(&held.sketch, &held.grid, index));
+        .any(|held| numbers::unsound_at(&held.sketch, &held.grid, index as usize));
     same("an unsound cell is named", named, true)
 }

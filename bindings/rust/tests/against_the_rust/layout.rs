@@ -10,61 +10,64 @@ const PAD: u8 = 0xA5;
 
 /// Bytes a cell, by the library. Of a t that it refuses, for the causes that stand behind that one: as the depth goes on, four
 /// bytes more for each four of t.
-pub fn depth(t: usize) -> usize {
-    let told = calls::depth(t, 2);
-    if told.number == 0 {
-        return told.value as usize;
+pub fn depth(t: u64) -> usize {
+    let mut bytes = 0;
+    if calls::depth(t, 2, &mut bytes).is_ok() {
+        return bytes as usize;
     }
     let like = 4 + t % 4;
-    t.saturating_add(depth(like) - like)
+    (t as usize).saturating_add(depth(like) - like as usize)
 }
 
-fn their_depth(t: usize) -> usize {
+fn their_depth(t: u64) -> usize {
     judge::depth(t as u16) as usize
 }
 
 /// What the library is to give, reckoned apart from it: as many bytes as the Rust's cell has.
-pub fn right_depth(t: usize) -> usize {
+pub fn right_depth(t: u64) -> usize {
     their_depth(t)
 }
 
 /// Where the zoom of this cell stands in a grid of ours.
-pub fn zoom_of(t: usize, index: usize) -> usize {
-    index * depth(t) + zoom_at(t)
+pub fn zoom_of(t: u64, index: usize) -> usize {
+    index * depth(t) + zoom_at(t as usize)
 }
 
-fn ours(t: usize, bytes: &[u8]) -> Cells<'_> {
+fn ours(t: u64, bytes: &[u8]) -> Cells<'_> {
     let depth = depth(t);
     Cells { bytes, depth }
 }
 
 /// A cell of ours with all that one of the Rust's has, pads too.
 pub fn from_theirs(t: u16, mut cell: Vec<u8>) -> Vec<u8> {
-    cell.resize(depth(t as usize), PAD);
+    cell.resize(depth(t as u64), PAD);
     cell
 }
 
 /// Cells of ours as the Rust takes them.
-pub fn to_theirs(t: usize, bytes: &[u8]) -> Vec<u8> {
-    ours(t, bytes).at_depth(t, their_depth(t))
+pub fn to_theirs(t: u64, bytes: &[u8]) -> Vec<u8> {
+    ours(t, bytes).at_depth(t as usize, their_depth(t))
 }
 
 /// Pixels, zoom and shutter are the Rust's.
-pub fn same_cells(what: &str, t: usize, bytes: &[u8], theirs: &[u8]) -> Outcome {
+pub fn same_cells(what: &str, t: u64, bytes: &[u8], theirs: &[u8]) -> Outcome {
     let theirs = Cells {
         bytes: theirs,
         depth: their_depth(t),
     };
-    beside::same_cells(t, ours(t, bytes), theirs).map_err(|difference| format!("{what}: {difference}"))
+    beside::same_cells(t as usize, ours(t, bytes), theirs).map_err(|difference| format!("{what}: {difference}"))
 }
 
 /// What stands behind the shutters of cells of ours.
-fn pads(t: usize, bytes: &[u8]) -> Vec<u8> {
+fn pads(t: u64, bytes: &[u8]) -> Vec<u8> {
     let cells = bytes.chunks_exact(depth(t));
-    cells.flat_map(|cell| &cell[shutter_at(t).end..]).copied().collect()
+    cells
+        .flat_map(|cell| &cell[shutter_at(t as usize).end..])
+        .copied()
+        .collect()
 }
 
 /// The pads are as they were: only a fresh start and a load write them.
-pub fn same_pads(t: usize, bytes: &[u8], before: &[u8]) -> Outcome {
+pub fn same_pads(t: u64, bytes: &[u8], before: &[u8]) -> Outcome {
     same_bytes("the pads", &pads(t, bytes), &pads(t, before))
 }

@@ -9,11 +9,11 @@ fn told(header: &[u8]) -> Sketch {
     let u32_at = |at: usize| u32::from_le_bytes(header[4 + at..][..4].try_into().expect("four bytes"));
     let u64_at = |at: usize| u64::from_le_bytes(header[4 + at..][..8].try_into().expect("eight bytes"));
     Sketch {
-        rows: u32_at(4) as usize,
-        cols: u32_at(8) as usize,
-        t: u32_at(12) as usize,
-        c: u32_at(16),
-        kind: u32_at(20),
+        rows: u32_at(4) as u64,
+        cols: u32_at(8) as u64,
+        t: u32_at(12) as u64,
+        c: u32_at(16) as u64,
+        kind: u32_at(20) as u64,
         length: u64_at(24),
         epoch: u64_at(32),
         reading: u64_at(40),
@@ -56,12 +56,22 @@ pub fn load(store: &[u8], grid: Option<usize>) -> Causes {
     of_grid(causes, &s, store, grid)
 }
 
-fn of_grid(before: Causes, s: &Sketch, store: &[u8], grid: Option<usize>) -> Causes {
-    let carried: Vec<u8> = blocks(store)
+/// What the blocks behind the first carry: the grid, and what fills up the last.
+fn carried(store: &[u8]) -> Vec<u8> {
+    blocks(store)
         .skip(1)
         .flat_map(|block| &block[4..508])
         .copied()
-        .collect();
+        .collect()
+}
+
+/// Whether this cell of a store with a whole block 0 is unsound.
+pub fn unsound_at(store: &[u8], index: usize) -> bool {
+    numbers::unsound_at(&told(store), &carried(store), index)
+}
+
+fn of_grid(before: Causes, s: &Sketch, store: &[u8], grid: Option<usize>) -> Causes {
+    let carried = carried(store);
     let bytes = grid_bytes(s);
     let (cells, fill) = carried.split_at(bytes.min(carried.len()));
     then(

@@ -14,6 +14,8 @@ include!("comparison.rs");
 /// Nothing of it compiles without the links, so that build.rs looks for them first.
 #[cfg(unlinked)]
 fn main() -> std::process::ExitCode {
-    eprintln!("against_the_rust: the links to the published Rust are not there; run oracle/tree in the repository first");
+    eprintln!(
+        "against_the_rust: the links to the published Rust are not there; run oracle/tree in the repository first"
+    );
     std::process::ExitCode::FAILURE
 }

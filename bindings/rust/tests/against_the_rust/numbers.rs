@@ -22,12 +22,12 @@ pub fn then<const N: usize>(mut before: Causes, more: [(u64, bool); N]) -> Cause
     before
 }
 
-fn fit(rows: usize, cols: usize) -> bool {
+fn fit(rows: u64, cols: u64) -> bool {
     let power = cols.is_power_of_two() && (2..=65_536).contains(&cols);
-    power && (1..=128).contains(&rows) && rows * cols.ilog2() as usize <= 128
+    power && (1..=128).contains(&rows) && rows * cols.ilog2() as u64 <= 128
 }
 
-pub fn params(t: usize, c: u32) -> Causes {
+pub fn params(t: u64, c: u64) -> Causes {
     vec![(1, !(1..=4096).contains(&t)), (2, !(2..=256).contains(&c))]
 }
 
@@ -48,7 +48,8 @@ pub fn sketch(s: &Sketch) -> Causes {
 }
 
 pub fn grid_bytes(s: &Sketch) -> usize {
-    s.rows.saturating_mul(s.cols).saturating_mul(depth(s.t))
+    let cells = s.rows.saturating_mul(s.cols);
+    (cells as usize).saturating_mul(depth(s.t))
 }
 
 /// A fresh start is handed no random state.
@@ -62,7 +63,7 @@ pub fn with_grid(s: &Sketch, grid: &[u8]) -> Causes {
 }
 
 fn key_fits(s: &Sketch, key: &[u32]) -> bool {
-    key.len() == s.rows && key.iter().all(|&column| (column as usize) < s.cols)
+    key.len() as u64 == s.rows && key.iter().all(|&column| (column as u64) < s.cols)
 }
 
 /// 1 to 7.
@@ -83,12 +84,13 @@ fn n_of(s: &Sketch) -> Option<u64> {
 }
 
 /// c^z, if a cell can have that zoom: 31 is the largest of any base, and so also of one out of range.
-pub fn unit(c: u32, z: u8) -> Option<u64> {
-    let unit = (c as u64).checked_pow(z as u32)?;
+pub fn unit(c: u64, z: u8) -> Option<u64> {
+    let unit = c.checked_pow(z as u32)?;
     (z <= 31 && unit <= u32::MAX as u64).then_some(unit)
 }
 
-fn unsound(t: usize, c: u32, cell: &[u8]) -> bool {
+fn unsound(t: u64, c: u64, cell: &[u8]) -> bool {
+    let t = t as usize;
     let Some(&[z, s0, s1, s2, s3]) = cell.get(zoom_at(t)..shutter_at(t).end) else {
         return false;
     };
@@ -101,21 +103,30 @@ pub fn unsound_at(s: &Sketch, grid: &[u8], index: usize) -> bool {
     cell.is_some_and(|cell| unsound(s.t, s.c, cell))
 }
 
+/// The first in grid order.
+pub fn first_unsound(s: &Sketch, grid: &[u8]) -> Option<usize> {
+    grid.chunks_exact(depth(s.t)).position(|cell| unsound(s.t, s.c, cell))
+}
+
 pub fn any_unsound(s: &Sketch, grid: &[u8]) -> bool {
-    grid.chunks_exact(depth(s.t)).any(|cell| unsound(s.t, s.c, cell))
+    first_unsound(s, grid).is_some()
+}
+
+/// The index of a cell, if there is one.
+pub fn cell_at(s: &Sketch, row: u64, column: u64) -> usize {
+    row.saturating_mul(s.cols).saturating_add(column) as usize
 }
 
 fn key_unsound(s: &Sketch, key: &[u32], grid: &[u8]) -> bool {
-    let columns = key.iter().map(|&column| column as usize).enumerate();
+    let columns = (0..s.rows).zip(key.iter().map(|&column| column as u64));
     columns
-        .take(s.rows)
         .filter(|&(_, column)| column < s.cols)
-        .any(|(row, column)| unsound_at(s, grid, row.saturating_mul(s.cols).saturating_add(column)))
+        .any(|(row, column)| unsound_at(s, grid, cell_at(s, row, column)))
 }
 
 /// Whether an unsound cell is judged on the way to this reading: of all cells if the clock crosses, else of the key's. A
 /// call for the other kind of clock crosses nothing.
-fn judged(s: &Sketch, key: &[u32], kind: u32, reading: u64, grid: &[u8]) -> bool {
+fn judged(s: &Sketch, key: &[u32], kind: u64, reading: u64, grid: &[u8]) -> bool {
     if s.kind == kind && n_at(s, reading) != n_of(s) {
         any_unsound(s, grid)
     } else {
@@ -144,7 +155,7 @@ pub fn read(s: &Sketch, key: &[u32], grid: &[u8]) -> Causes {
 }
 
 pub fn read_with(s: &Sketch, key: &[u32], fraction: f64, grid: &[u8]) -> Causes {
-    let full = n_of(s).is_some_and(|n| n >= s.t as u64);
+    let full = n_of(s).is_some_and(|n| n >= s.t);
     then(
         with_key(s, key, grid),
         [
@@ -154,7 +165,7 @@ pub fn read_with(s: &Sketch, key: &[u32], fraction: f64, grid: &[u8]) -> Causes 
     )
 }
 
-pub fn bucket(s: &Sketch, row: usize, col: usize, grid: &[u8]) -> Causes {
+pub fn bucket(s: &Sketch, row: u64, col: u64, grid: &[u8]) -> Causes {
     then(with_grid(s, grid), [(7, row >= s.rows || col >= s.cols)])
 }
 
@@ -190,13 +201,13 @@ pub fn save(s: &Sketch, grid: &[u8], store: usize) -> Causes {
 }
 
 /// A call on one cell that needs no random state.
-pub fn one_cell(t: usize, c: u32, cell: &[u8]) -> Causes {
+pub fn one_cell(t: u64, c: u64, cell: &[u8]) -> Causes {
     then(params(t, c), [(6, cell.len() != depth(t)), (14, unsound(t, c, cell))])
 }
 
 /// A call that changes one cell.
-pub fn change(t: usize, c: u32, state: u64, crossing: Option<(u64, u64)>, cells: &[&[u8]]) -> Causes {
-    let few = 1..(t as u64).saturating_add(2);
+pub fn change(t: u64, c: u64, state: u64, crossing: Option<(u64, u64)>, cells: &[&[u8]]) -> Causes {
+    let few = 1..t.saturating_add(2);
     let too_far = |(new_n, crossed)| few.contains(&crossed) && crossed > new_n;
     then(
         params(t, c),

@@ -1,10 +1,11 @@
 //! A sketch of ours and one of the published Rust's that are told the same and must stay the same.
 
+use crate::held;
 use crate::judge::{self, Settings};
 use crate::layout;
-use crate::score::{Outcome, called, number, same, same_bytes, same_number};
+use crate::score::{Outcome, called, number, same, same_bytes, same_number, unchanged_one};
 use crate::stores;
-use microscope::{MicroCm, MicroParams, SubWindowClock};
+use microscope::{MicroCm, MicroParams, Refusal, SubWindowClock};
 
 /// Grids up to this size are compared after each call; of larger ones every 64th call, and always at the end.
 const SMALL: usize = 8192;
@@ -28,7 +29,7 @@ pub fn clock_of(settings: &Settings) -> SubWindowClock {
     }
 }
 
-pub fn make(settings: &Settings) -> Result<MicroCm, microscope::Error> {
+pub fn make(settings: &Settings) -> Result<MicroCm, Refusal> {
     let params = MicroParams {
         t: settings.t as usize,
         c: settings.c as u32,
@@ -59,7 +60,7 @@ impl Pair {
     pub fn loaded(settings: Settings, reading: u64, state: u64, grid: &[u8]) -> Result<Self, String> {
         let mut theirs = settings.make();
         judge::set(&mut theirs, reading, state);
-        judge::set_grid(&mut theirs, &layout::to_theirs(settings.t as usize, grid));
+        judge::set_grid(&mut theirs, &layout::to_theirs(settings.t as u64, grid));
         let store = stores::encode(&settings, reading, state, grid);
         let ours = called(MicroCm::load(&store)).map_err(|why| why.to_string())?;
         Self::begin(settings, ours, theirs, grid.to_vec())
@@ -85,62 +86,82 @@ impl Pair {
     }
 
     pub fn update(&mut self, key: &[u32]) -> Outcome {
-        let answer = called(self.ours.update(key));
         let refusal = if self.fits(key) {
             8 * self.settings.timed as u64
         } else {
             7
         };
-        self.told(answer, refusal, |theirs| judge::update(theirs, &narrow(key)))
+        self.told(
+            |ours| ours.update(key),
+            refusal,
+            |theirs| judge::update(theirs, &narrow(key)),
+        )
     }
 
     pub fn update_at(&mut self, key: &[u32], time: u64) -> Outcome {
-        let answer = called(self.ours.update_at(key, time));
         let refusal = if self.fits(key) {
             8 * !self.settings.timed as u64
         } else {
             7
         };
-        self.told(answer, refusal, |theirs| {
-            judge::update_at(theirs, &narrow(key), time).expect("a clock of time")
-        })
+        self.told(
+            |ours| ours.update_at(key, time),
+            refusal,
+            |theirs| judge::update_at(theirs, &narrow(key), time).expect("a clock of time"),
+        )
     }
 
     pub fn advance_to(&mut self, time: u64) -> Outcome {
-        let answer = called(self.ours.advance_to(time));
         let refusal = 8 * !self.settings.timed as u64;
-        self.told(answer, refusal, |theirs| {
-            judge::advance_to(theirs, time).expect("a clock of time")
-        })
+        self.told(
+            |ours| ours.advance_to(time),
+            refusal,
+            |theirs| judge::advance_to(theirs, time).expect("a clock of time"),
+        )
     }
 
     pub fn merge(&mut self, other: &Pair) -> Outcome {
+        let (watch, others) = (self.ours.watch(), (other.ours.plain(), other.ours.watch()));
         let answer = called(self.ours.merge(&other.ours));
         let before = judge::state(&self.theirs);
         let right = judge::merge_sketches(&mut self.theirs, &other.theirs);
         same_number("the merge's number", number(&answer), right.err().unwrap_or(0) as u64)?;
-        self.drew(answer.unwrap_or(0), before)?;
+        same("the codes beside a merge", self.ours.watch(), watch)?;
+        unchanged_one(
+            "the sketch merged from",
+            &(other.ours.plain(), other.ours.watch()),
+            &others,
+        )?;
+        self.drew(answer, before)?;
         other.equal_grids()
     }
 
     /// The Rust is called only if ours is to accept.
     fn told(
         &mut self,
-        answer: Result<u64, microscope::Error>,
+        ours: impl FnOnce(&mut MicroCm) -> Result<u64, Refusal>,
         refusal: u64,
-        call: impl FnOnce(&mut judge::Sketch),
+        theirs: impl FnOnce(&mut judge::Sketch),
     ) -> Outcome {
+        let watch = self.ours.watch();
+        let answer = called(ours(&mut self.ours));
         same_number("the number", number(&answer), refusal)?;
+        same("the codes beside a call", self.ours.watch(), watch)?;
         let before = judge::state(&self.theirs);
         if refusal == 0 {
-            call(&mut self.theirs);
+            theirs(&mut self.theirs);
         }
-        self.drew(answer.unwrap_or(0), before)
+        self.drew(answer, before)
     }
 
-    fn drew(&mut self, draws: u64, before: u64) -> Outcome {
-        same("draws", draws, judge::draws_between(before, judge::state(&self.theirs)))?;
-        self.agree()
+    /// After a refusal all is looked at, also a large grid.
+    fn drew(&mut self, answer: Result<u64, Refusal>, before: u64) -> Outcome {
+        let draws = judge::draws_between(before, judge::state(&self.theirs));
+        same("draws", answer.unwrap_or(0), draws)?;
+        match answer {
+            Ok(_) => self.agree(),
+            Err(_) => self.agree_wholly(),
+        }
     }
 
     pub fn read(&self, key: &[u32]) -> Outcome {
@@ -190,7 +211,7 @@ impl Pair {
             called((ours.params().t, ours.params().c)),
             (params.t, params.c),
         )?;
-        let depth = layout::right_depth(params.t);
+        let depth = layout::right_depth(params.t as u64);
         same("bytes a cell", called(ours.cell_bytes()), depth)?;
         let bytes = size_of::<MicroCm>() + theirs.rows() * theirs.cols() * depth + self.code_bytes;
         same("bytes in memory", called(ours.memory_bytes()), bytes)?;
@@ -206,12 +227,19 @@ impl Pair {
         let cell = cell.map_err(|why| why.to_string())?;
         let start = (row * ours.cols() + col) * depth;
         same_bytes("the cell in the grid", cell, &ours.grid()[start..][..depth])?;
-        layout::same_cells("the cell", params.t, cell, theirs.as_storage().bucket_slice(row, col))
+        layout::same_cells(
+            "the cell",
+            params.t as u64,
+            cell,
+            theirs.as_storage().bucket_slice(row, col),
+        )
     }
 
     /// What the clock, the state and (of small ones) the grid are after a call.
     fn agree(&mut self) -> Outcome {
         let clock = judge::clock(&self.theirs);
+        let sketch = held::sketch_of(&self.settings, clock.reading, judge::state(&self.theirs));
+        same("the sketch's words", self.ours.plain(), sketch)?;
         same("state", self.ours.state(), judge::state(&self.theirs))?;
         same("clock", self.ours.clock(), our_clock(clock))?;
         same("n", self.ours.sub_window(), clock.n())?;
@@ -224,7 +252,7 @@ impl Pair {
 
     /// Pixels, zooms and shutters are the Rust's, and the pads are as they were.
     pub fn equal_grids(&self) -> Outcome {
-        let (t, grid) = (self.settings.t as usize, self.ours.grid());
+        let (t, grid) = (self.settings.t as u64, self.ours.grid());
         layout::same_cells("the grid", t, grid, judge::grid(&self.theirs))?;
         layout::same_pads(t, grid, &self.begun)
     }

@@ -51,11 +51,11 @@ fn first_of(bytes: &'static [u8]) -> (Case, &'static [u8]) {
 /// A sketch's nine words, the bytes of its grid, and 1 + the index of the cell whose zoom is 255 (0: none).
 fn held(words: &[u64]) -> Held {
     let sketch = Sketch {
-        rows: size(words[0]),
-        cols: size(words[1]),
-        t: size(words[2]),
-        c: small(words[3]),
-        kind: small(words[4]),
+        rows: words[0],
+        cols: words[1],
+        t: words[2],
+        c: words[3],
+        kind: words[4],
         length: words[5],
         epoch: words[6],
         reading: words[7],
@@ -97,8 +97,8 @@ impl Case {
 
     fn watch(&self) -> Watch {
         Watch {
-            count: size(self.words[15]),
-            rows: size(self.words[16]),
+            count: self.words[15],
+            rows: self.words[16],
             reached: self.words[17],
         }
     }
@@ -152,7 +152,7 @@ impl Case {
             "estimate" => plain_calls::estimate(held, &key),
             "estimate_with" => plain_calls::estimate_with(held, &key, f64::from_bits(argument)),
             "mean" => plain_calls::mean(held, &key),
-            "bucket_check" => plain_calls::bucket_check(held, size(argument), size(column)),
+            "bucket_check" => plain_calls::bucket_check(held, argument, column),
             "max_zoom" => plain_calls::max_zoom(held),
             "audit" => plain_calls::audit(held),
             "merge" => plain_calls::merge(held, other),
@@ -168,11 +168,7 @@ impl Case {
     fn as_recorded(&self) -> Outcome {
         let (mine, others) = (self.mine(), self.others());
         let (number, index) = self.told(&mine, &others)?;
-        same(
-            "the number and index",
-            (number, index as u64),
-            (self.words[1], self.words[2]),
-        )?;
+        same("the number and index", (number, index), (self.words[1], self.words[2]))?;
         // Lent to be read only, or the copy of what was lent to be written.
         same_bytes("the grid lent", &mine.grid, &self.mine().grid)?;
         same_bytes("the other's grid", &others.grid, &self.others().grid)

@@ -1,7 +1,7 @@
 //! The calls with plain values, chosen at random, on sketches and grids that were spoiled or not.
 
 use crate::choose::Dice;
-use crate::held::{Held, held, spoil};
+use crate::held::{Held, WIDE, held, spoil};
 use crate::numbers;
 use crate::plain_calls::{self, Told};
 use crate::score::Outcome;
@@ -33,8 +33,8 @@ fn looks(dice: &mut Dice, held: &Held) -> Told {
     let s = held.sketch;
     plain_calls::max_zoom(held)?;
     plain_calls::audit(held)?;
-    let row = dice.one_of(&[0, s.rows, s.rows.wrapping_sub(1), usize::MAX]);
-    let col = dice.one_of(&[0, s.cols, s.cols.wrapping_sub(1), usize::MAX]);
+    let row = dice.one_of(&[0, s.rows, s.rows.wrapping_sub(1), WIDE, u64::MAX]);
+    let col = dice.one_of(&[0, s.cols, s.cols.wrapping_sub(1), WIDE, u64::MAX]);
     plain_calls::bucket_check(held, row, col)
 }
 
@@ -65,7 +65,7 @@ pub fn story(dice: &mut Dice) -> Outcome {
     let whole = held(dice);
     for _ in 0..60 {
         let mut held = whole.clone();
-        let key = stories::key(dice, held.sketch.rows, held.sketch.cols);
+        let key = stories::key(dice, held.sketch.rows as usize, held.sketch.cols as usize);
         spoil(dice, &mut held);
         let told = match dice.below(6) {
             0 | 1 => changes(dice, &held, &key),

@@ -2,17 +2,23 @@
 
 use crate::damage;
 use crate::directed::SMALL;
+use crate::held::{Held, WIDE};
+use crate::junk;
 use crate::layout;
+use crate::numbers;
 use crate::pair::{Pair, make};
+use crate::plain_calls;
 use crate::score::{Outcome, called, number, same, same_number};
 use crate::stores;
 use microscope::calls::{self, Sketch};
-use microscope::{MicroCm, MicroParams, SubWindowClock};
+use microscope::{MicroCm, MicroParams, Refusal, SubWindowClock};
 
-pub const ALL: [(&str, fn() -> Outcome); 3] = [
+pub const ALL: [(&str, fn() -> Outcome); 5] = [
     ("settings refused", settings_refused),
     ("stores refused", stores_refused),
     ("errors in words", words),
+    ("the header's names and words", as_in_header),
+    ("the version", version),
 ];
 
 fn settings_refused() -> Outcome {
@@ -37,18 +43,32 @@ fn settings_refused() -> Outcome {
         let answer = called(MicroCm::with_dimensions(rows, cols, params, clock, 1));
         same_number("the fresh start's number", number(&answer), right)?;
     }
-    for kind in [2, 3, 1 << 31, u32::MAX] {
-        let answer = called(calls::new(1, 2, 1, 2, kind, 1, 0, 1, &mut [9; 16]));
-        same_number("the number of an unknown kind", answer.number, 3)?;
-        let sketch = Sketch {
-            kind,
-            ..make(&SMALL).map_err(|why| why.to_string())?.plain()
-        };
-        same_number(
-            "the number of an unknown kind",
-            called(calls::store_length(sketch)).number,
-            3,
-        )?;
+    for kind in [2, 3, 1 << 31, u32::MAX as u64, WIDE, WIDE + 1, u64::MAX] {
+        plain_refused(|sketch| sketch.kind = kind, 3)?;
+    }
+    for c in [0, 1, 257, u32::MAX as u64, WIDE, WIDE + 2, u64::MAX] {
+        plain_refused(|sketch| sketch.c = c, 2)?;
+    }
+    plain_refused(|sketch| sketch.t = WIDE + 1, 1)?;
+    plain_refused(|sketch| sketch.rows = WIDE + 1, 4)?;
+    plain_refused(|sketch| sketch.cols = WIDE + 2, 4)
+}
+
+/// A sketch of words that no sketch has is refused by this number, when it is to be made and when it is handed over.
+fn plain_refused(spoil: impl Fn(&mut Sketch), right: u64) -> Outcome {
+    let sketch = make(&SMALL).map_err(|why| why.to_string())?.plain();
+    let mut held = Held {
+        grid: vec![junk::BYTE; numbers::grid_bytes(&sketch)],
+        sketch,
+    };
+    spoil(&mut held.sketch);
+    for told in [
+        plain_calls::start(&held, 1),
+        plain_calls::store_length(&held),
+        plain_calls::update(&held, &[0, 0]),
+        plain_calls::audit(&held),
+    ] {
+        same_number("the number of such a sketch", told?.0, right)?;
     }
     Ok(())
 }
@@ -68,7 +88,7 @@ fn stores_refused() -> Outcome {
     damage::refused(&[&store[512..], &store[..512]].concat(), bytes, 17)?;
     damage::refused(&stores::of_payloads(&header, &[&grid[..], &[1]].concat()), bytes, 18)?;
     let mut unsound = grid.clone();
-    unsound[layout::zoom_of(SMALL.t as usize, 5)] = 32;
+    unsound[layout::zoom_of(SMALL.t as u64, 5)] = 32;
     damage::refused(&stores::of_payloads(&header, &unsound), bytes, 14)?;
     let index = MicroCm::load(&stores::of_payloads(&header, &unsound))
         .err()
@@ -109,7 +129,7 @@ fn words() -> Outcome {
         Err("refused by 7: not one column a row, or a row or column out of range".into()),
     )?;
     let mut unsound = ours.grid().to_vec();
-    unsound[layout::zoom_of(SMALL.t as usize, 5)] = 32;
+    unsound[layout::zoom_of(SMALL.t as u64, 5)] = 32;
     let store = stores::encode(&SMALL, 0, 7, &unsound);
     let told = called(MicroCm::load(&store)).map_err(|why| why.to_string());
     same("14 in words", told, Err("refused by 14: unsound cell 5".into()))?;
@@ -119,4 +139,62 @@ fn words() -> Outcome {
     let told = called(ours.ask_into(&mut [])).map_err(|why| why.to_string());
     let short = "refused by 20: the list has less room than there are codes";
     same("20 in words", told, Err(short.into()))
+}
+
+/// In the order of their numbers, from 1 on.
+const REFUSALS: [Refusal; 20] = [
+    Refusal::T,
+    Refusal::C,
+    Refusal::Length,
+    Refusal::Dimensions,
+    Refusal::State,
+    Refusal::Bytes,
+    Refusal::Columns,
+    Refusal::ClockKind,
+    Refusal::Crossed,
+    Refusal::Shapes,
+    Refusal::Frames,
+    Refusal::SubWindows,
+    Refusal::Fraction,
+    Refusal::Unsound { index: 0 },
+    Refusal::Divisor,
+    Refusal::StoreLength,
+    Refusal::Block,
+    Refusal::Form,
+    Refusal::Codes,
+    Refusal::List,
+];
+
+static HEADER: &str = include_str!("../../../../include/microscope.h");
+
+/// A refusal's name as the header has it, but for its index and the header's low lines: `ClockKind` is `CLOCKKIND`.
+fn name(refusal: Refusal) -> String {
+    let name = format!("{refusal:?}");
+    name.split(' ').next().unwrap_or_default().to_uppercase()
+}
+
+/// Every refusal has the number, the name and the words that the header gives it.
+fn as_in_header() -> Outcome {
+    let (_, cases) = HEADER
+        .split_once("    case MICROSCOPE_ACCEPTED:")
+        .ok_or("no words in the header")?;
+    let (cases, _) = cases.split_once("    default:").ok_or("no end of the words")?;
+    let cases: Vec<&str> = cases.split("    case MICROSCOPE_").skip(1).collect();
+    same("how many words there are", cases.len(), REFUSALS.len())?;
+    for ((case, refusal), number) in cases.into_iter().zip(REFUSALS).zip(1..) {
+        let (enumerator, words) = case.split_once(":\n        return ").ok_or("a case without words")?;
+        same("the words", words, &format!("\"{}\";\n", refusal.meaning()))?;
+        same("the name", name(refusal), enumerator.replace('_', ""))?;
+        same("the number", refusal.number(), number)?;
+        let enumerated = HEADER.contains(&format!("    MICROSCOPE_{enumerator} = {number}"));
+        same("whether the header numbers it so", enumerated, true)?;
+    }
+    Ok(())
+}
+
+/// The library goes with the wrapper, and the wrapper with the header.
+fn version() -> Outcome {
+    same("the version of the library", called(calls::version()), calls::VERSION)?;
+    let right = format!("#define MICROSCOPE_VERSION {}\n", calls::VERSION);
+    same("whether the header has it", HEADER.contains(&right), true)
 }

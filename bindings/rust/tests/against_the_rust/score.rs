@@ -2,6 +2,7 @@
 
 use std::cell::Cell;
 use std::fmt::Debug;
+use std::hint::black_box;
 
 /// A story ends at its first difference, told in words: what comes after would differ too.
 pub type Outcome = Result<(), String>;
@@ -78,6 +79,16 @@ pub fn same_each<T: PartialEq + Debug>(kind: &str, what: &str, ours: &[T], right
     same(&format!("length of {what}"), ours.len(), right.len())?;
     let at = ours.iter().zip(right).position(|(a, b)| a != b).expect("they differ");
     same(&format!("{kind} {at} of {what}"), &ours[at], &right[at])
+}
+
+/// What was lent to be read only is as it was before the call. It is looked at again: the compiler could take it for that.
+pub fn unchanged<T: PartialEq + Debug>(what: &str, lent: &[T], before: &[T]) -> Outcome {
+    same_each("part", what, black_box(lent), before)
+}
+
+/// The same for one of a kind.
+pub fn unchanged_one<T: PartialEq + Debug>(what: &str, lent: &T, before: &T) -> Outcome {
+    same(what, black_box(lent), before)
 }
 
 /// The number of an answer of the wrapper's, 0 if it was accepted.
