@@ -7,6 +7,11 @@ mod choice;
 mod ours;
 mod standins;
 
+// The structs as the wrapper declares them.
+#[allow(dead_code)]
+#[path = "../../bindings/rust/src/plain.rs"]
+mod plain;
+
 // What the wrapper's tests compare cells by.
 #[path = "../../bindings/rust/tests/against_the_rust/beside.rs"]
 mod beside;
@@ -64,7 +69,7 @@ impl Shape {
     }
 
     fn ours(self, timed: bool) -> Ours {
-        Ours::new(self.rows, self.cols, self.t, self.c, timed as u32, self.length, 1)
+        Ours::new(self.rows, self.cols, self.t, self.c, timed, self.length, 1)
     }
 
     fn key(self, seed: u64) -> Key {
@@ -130,26 +135,34 @@ fn told(what: &str, shape: Shape, (ours, theirs): (f64, Option<f64>), aim: &str)
 /// Both must have come to the same pixels, zooms and shutters: a benchmark of two different things says nothing.
 fn same(ours: &Ours, theirs: &Theirs) {
     let right = Cells { bytes: theirs.as_storage().as_slice(), depth: theirs.cell_bytes() };
-    assert_eq!(same_cells(ours.sketch.t, ours.cells(), right), Ok(()), "the grids differ");
+    assert_eq!(same_cells(ours.sketch.t as usize, ours.cells(), right), Ok(()), "the grids differ");
     assert_eq!(ours.sketch.state, reach::state(theirs), "the states differ");
 }
 
-fn updates(what: &str, shape: Shape, kind: Keys, calls: usize, call: impl Fn(&mut Ours, &[u32]), aim: &str) {
-    let keys = shape.keys(kind, calls);
+fn updates(keys: &str, shape: Shape, kind: Keys, calls: usize, aim: &str) {
+    let items = shape.keys(kind, calls);
     let (mut ours, mut theirs) = (shape.ours(false), shape.theirs(false));
     let figures = timed(
         calls as u64,
-        || clocked(|| keys.iter().for_each(|key| call(&mut ours, &key.columns))),
-        Some(&mut || clocked(|| keys.iter().for_each(|key| theirs.update(&key.packed)))),
+        || clocked(|| items.iter().for_each(|key| ours.update(&key.columns))),
+        Some(&mut || clocked(|| items.iter().for_each(|key| theirs.update(&key.packed)))),
     );
     same(&ours, &theirs);
-    told(what, shape, figures, aim);
+    told(&format!("update, {keys}"), shape, figures, aim);
 }
 
-/// The sketch changed in its place, as the Rust's is, and the same by value.
-fn both_updates(keys: &str, shape: Shape, kind: Keys, calls: usize, aim: &str) {
-    updates(&format!("update in place, {keys}"), shape, kind, calls, Ours::update_in_place, aim);
-    updates(&format!("update by value, {keys}"), shape, kind, calls, Ours::update, aim);
+/// An item for each unit of time, so that sub-windows have as many as by a clock of items.
+fn updates_at(keys: &str, shape: Shape, kind: Keys, calls: usize, aim: &str) {
+    let items = shape.keys(kind, calls);
+    let (mut ours, mut theirs) = (shape.ours(true), shape.theirs(true));
+    let (mut now, mut their_now) = (0.., 0..);
+    let figures = timed(
+        calls as u64,
+        || clocked(|| items.iter().zip(&mut now).for_each(|(key, time)| ours.update_at(&key.columns, time))),
+        Some(&mut || clocked(|| items.iter().zip(&mut their_now).for_each(|(key, time)| theirs.update_at(&key.packed, time)))),
+    );
+    same(&ours, &theirs);
+    told(&format!("update_at, {keys}"), shape, figures, aim);
 }
 
 /// A sketch of time, filled so that cells have zoomed.
@@ -201,7 +214,7 @@ fn readings(what: &str, shape: Shape, aim: &str) {
     let (ours, theirs) = aged(shape);
     let keys = shape.keys(Keys::Skewed, 1_000);
     for key in &keys {
-        assert_eq!(ours.estimate(&key.columns).linear.to_bits(), theirs.estimate(&key.packed).to_bits(), "the figures differ");
+        assert_eq!(ours.estimate(&key.columns).figures.linear.to_bits(), theirs.estimate(&key.packed).to_bits(), "the figures differ");
     }
     let figures = timed(
         keys.len() as u64,
@@ -242,7 +255,7 @@ fn alone(shape: Shape) {
 /// So many codes, every other one at its limit; set, and with their keys.
 fn watched(ours: &Ours, shape: Shape, count: u64) -> (Codes, Vec<Key>) {
     let keys: Vec<Key> = (0..count).map(|seed| shape.key(seed)).collect();
-    let limits: Vec<u64> = (0..).zip(&keys).map(|(code, key)| ours.estimate(&key.columns).over_items + code % 2).collect();
+    let limits: Vec<u64> = (0..).zip(&keys).map(|(code, key)| ours.estimate(&key.columns).items.over + code % 2).collect();
     let mut codes = Codes::none();
     ours.set_codes(&mut codes, &columns(&keys), &limits);
     (codes, keys)
@@ -289,9 +302,10 @@ fn main() {
     println!("| call | grid | ours, ns | the Rust, ns | ratio | aim |");
     println!("|---|---|---|---|---|---|");
     let shape = Shape { rows: 4, cols: 1024, t: 12, c: 2, length: 4096 };
-    both_updates("uniform keys", shape, Keys::Uniform, 200_000, "1.0");
-    both_updates("skewed keys", shape, Keys::Skewed, 200_000, "1.0");
-    both_updates("one key", shape, Keys::One, 200_000, "1.0");
+    updates("uniform keys", shape, Keys::Uniform, 200_000, "1.0");
+    updates("skewed keys", shape, Keys::Skewed, 200_000, "1.0");
+    updates("one key", shape, Keys::One, 200_000, "1.0");
+    updates_at("uniform keys", shape, Keys::Uniform, 200_000, "");
     crossings("crossing", shape, "1.0");
     readings("reading", shape, "0.5");
     merges("merge", shape, "0.5");
@@ -300,7 +314,12 @@ fn main() {
         let shape = Shape { rows, cols, t, ..shape };
         // Fewer items for grids that cross slowly.
         let calls = if cols == 65536 { 20_000 } else { 100_000 };
-        both_updates("uniform keys", shape, Keys::Uniform, calls, "");
+        updates("uniform keys", shape, Keys::Uniform, calls, "");
+        // One row is where a call's own cost shows most.
+        if rows == 1 {
+            updates("skewed keys", shape, Keys::Skewed, calls, "");
+            updates("one key", shape, Keys::One, calls, "");
+        }
         crossings("crossing", shape, "");
         readings("reading", shape, "");
         merges("merge", shape, "");
