@@ -12,7 +12,7 @@
 use crate::Refusal;
 
 pub use crate::plain::{
-    Asked, Change, Figures, Found, ITEMS, Items, KEPT_COLUMNS, MOST_CODES, Sketch, TIME, VERSION, Value, Watch,
+    Asked, Change, Figures, Found, ITEMS, Items, KEPT_COLUMNS, MOST_CODES, Shape, Sketch, TIME, VERSION, Value, Watch,
 };
 
 #[link(name = "microscope", kind = "static")]
@@ -113,6 +113,7 @@ unsafe extern "C" {
         store_bytes: usize,
         index: *mut u64,
     ) -> u64;
+    fn microscope_store_shape(store: *const u8, store_bytes: usize, shape: *mut Shape) -> u64;
     fn microscope_set_codes(
         sketch: *const Sketch,
         watch: *mut Watch,
@@ -386,6 +387,13 @@ pub fn load(
         )
     };
     Refusal::unless_accepted(number, *index)
+}
+
+/// Which sketch a store of unknown origin holds, and how long a grid to lend for a load of it. Only blocks, header and
+/// length are judged: a load may still refuse it.
+pub fn store_shape(store: &[u8], shape: &mut Shape) -> Result<(), Refusal> {
+    // SAFETY: the store comes with its own length; shape is borrowed exclusively.
+    told(unsafe { microscope_store_shape(store.as_ptr(), store.len(), shape) })
 }
 
 // ---- watched codes ----

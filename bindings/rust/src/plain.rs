@@ -235,6 +235,19 @@ pub struct Asked {
 }
 
 /// What a store says of the sketch in it; all 0 if refused.
+///
+/// ```
+/// use microscope::calls::{self, Shape};
+/// # use microscope::{MicroCm, MicroParams, SubWindowClock};
+/// # let params = MicroParams { t: 12, c: 2 };
+/// # let counter = MicroCm::with_dimensions(2, 64, params, SubWindowClock::count_based(1000), 1)?;
+///
+/// let store = counter.save()?;
+/// let mut shape = Shape::default();
+/// calls::store_shape(&store, &mut shape)?;
+/// assert_eq!(shape, Shape { rows: 2, cols: 64, t: 12, c: 2, grid_bytes: 2560 });
+/// # Ok::<(), microscope::Refusal>(())
+/// ```
 #[repr(C)]
 #[derive(Clone, Copy, Debug, Default, PartialEq, Eq)]
 pub struct Shape {

@@ -2,7 +2,7 @@
 
 #![forbid(unsafe_code)]
 
-use crate::calls::{self, Change, Figures, Found, Items, KEPT_COLUMNS, MOST_CODES, Sketch, Value, Watch};
+use crate::calls::{self, Change, Figures, Found, Items, KEPT_COLUMNS, MOST_CODES, Shape, Sketch, Value, Watch};
 use crate::codes::Codes;
 use crate::{Error, Refusal, SubWindowClock};
 use alloc::vec;
@@ -115,7 +115,7 @@ impl MicroCm {
                 &mut fresh.grid,
             )
         };
-        let mut fresh = Self::without_grid();
+        let mut fresh = Self::with_grid(Vec::new());
         // No grid is empty, so this one is refused: by 6 if there is nothing wrong with the settings.
         unless_only_bytes(fill(&mut fresh))?;
         fresh.grid = vec![0; grid_bytes(rows, cols, params)?];
@@ -239,25 +239,16 @@ impl MicroCm {
 
     /// The sketch that was saved. No codes are in a store: it watches none.
     pub fn load(store: &[u8]) -> Result<Self, Error> {
-        let fill = |loaded: &mut Self| {
-            calls::load(
-                &mut loaded.sketch,
-                loaded.codes.watch_mut(),
-                &mut loaded.grid,
-                store,
-                &mut 0,
-            )
-        };
-        let mut loaded = Self::without_grid();
-        // Refused by 6 if there is nothing wrong but that the grid is missing; then the header can be trusted.
-        unless_only_bytes(fill(&mut loaded))?;
-        let field = |at: usize| u32::from_le_bytes([store[at], store[at + 1], store[at + 2], store[at + 3]]);
-        let params = MicroParams {
-            t: field(16) as usize,
-            c: field(20),
-        };
-        loaded.grid = vec![0; grid_bytes(field(8) as usize, field(12) as usize, params)?];
-        fill(&mut loaded)?;
+        let mut shape = Shape::default();
+        calls::store_shape(store, &mut shape)?;
+        let mut loaded = Self::with_grid(vec![0; shape.grid_bytes as usize]);
+        calls::load(
+            &mut loaded.sketch,
+            loaded.codes.watch_mut(),
+            &mut loaded.grid,
+            store,
+            &mut 0,
+        )?;
         Ok(loaded)
     }
 
@@ -334,11 +325,11 @@ impl MicroCm {
         self.clock().residual_fraction()
     }
 
-    /// What a fresh start or a load fills, its grid yet to be allocated.
-    fn without_grid() -> Self {
+    /// What a fresh start or a load fills.
+    fn with_grid(grid: Vec<u8>) -> Self {
         Self {
             sketch: Sketch::default(),
-            grid: Vec::new(),
+            grid,
             codes: Codes::none(),
         }
     }

@@ -56,9 +56,40 @@ fn harm(dice: &mut Dice, store: &mut Vec<u8>) {
     }
 }
 
+/// What a store says of its sketch, by the number that blocks, header and length give: all 0 if it is refused.
+pub fn shape(store: &[u8]) -> Told {
+    let lent = store.to_vec();
+    let mut shape = junk::SHAPE;
+    let answer = called(calls::store_shape(&lent, &mut shape));
+    let right = hits::number("store_shape", &load_order::shape(store));
+    let told = plain_calls::told("the shape's number", answer, right, 0)?;
+    unchanged("the store lent", &lent, store)?;
+    let shape_right = match right {
+        0 => load_order::shape_of(store),
+        _ => calls::Shape::default(),
+    };
+    same("the shape", shape, shape_right)?;
+    Ok(told)
+}
+
+/// A store that was loaded has the shape that it told of.
+fn as_told(store: &[u8], ours: &MicroCm) -> Outcome {
+    let mut shape = junk::SHAPE;
+    same(
+        "the shape of what was loaded",
+        called(calls::store_shape(store, &mut shape)),
+        Ok(()),
+    )?;
+    let s = ours.plain();
+    let words = [shape.rows, shape.cols, shape.t, shape.c, shape.grid_bytes];
+    let right = [s.rows, s.cols, s.t, s.c, ours.grid().len() as u64];
+    same("rows, cols, t, c and bytes of the grid", words, right)
+}
+
 /// A load into a grid of this length, by the number that a load's own order gives. If it is refused, no word of the
 /// sketch and the codes and no byte of the grid is written.
 pub fn load(store: &[u8], bytes: usize) -> Told {
+    shape(store)?;
     let lent = store.to_vec();
     let (mut sketch, mut watch) = (junk::SKETCH, junk::WATCH);
     let (mut grid, mut index) = (vec![junk::BYTE; bytes], junk::WORD);
@@ -73,6 +104,7 @@ pub fn load(store: &[u8], bytes: usize) -> Told {
         same("the sketch loaded", sketch, ours.plain())?;
         same("the codes of a load", watch, calls::Watch::default())?;
         same_bytes("the grid loaded", &grid, ours.grid())?;
+        as_told(store, &ours)?;
     } else {
         same("the sketch of a refusal", sketch, junk::SKETCH)?;
         same("the codes of a refusal", watch, junk::WATCH)?;

@@ -13,7 +13,7 @@ thread_local! {
     static HITS: RefCell<BTreeMap<&'static str, BTreeMap<Pair, u64>>> = const { RefCell::new(BTreeMap::new()) };
 }
 
-pub const CALLS: [&str; 16] = [
+pub const CALLS: [&str; 17] = [
     "with_dimensions",
     "update",
     "update_at",
@@ -30,6 +30,7 @@ pub const CALLS: [&str; 16] = [
     "load",
     "set_codes",
     "ask",
+    "store_shape",
 ];
 
 /// Two causes of a call that cannot hold at once: an advance on a clock of items crosses nothing, and an advance that

@@ -1,6 +1,6 @@
 //! What stands in the caller's memory before a call that is to write there, or that is to leave it.
 
-use microscope::calls::{Asked, Change, Figures, Found, Items, Sketch, Value, Watch};
+use microscope::calls::{Asked, Change, Figures, Found, Items, Shape, Sketch, Value, Watch};
 
 pub const WORD: u64 = 0xA5C3_5A3C_96E1_6978;
 
@@ -58,4 +58,12 @@ pub const FOUND: Found = Found {
 pub const ASKED: Asked = Asked {
     index: WORD,
     listed: WORD,
+};
+
+pub const SHAPE: Shape = Shape {
+    rows: WORD,
+    cols: WORD,
+    t: WORD,
+    c: WORD,
+    grid_bytes: WORD,
 };

@@ -2,7 +2,7 @@
 
 use crate::numbers::{self, Causes, any_unsound, grid_bytes, store_length, then};
 use crate::stores::{BLOCK, sum_of};
-use microscope::calls::Sketch;
+use microscope::calls::{Shape, Sketch};
 
 /// The sketch that block 0 tells of.
 fn told(header: &[u8]) -> Sketch {
@@ -38,9 +38,9 @@ fn is_form(header: &[u8]) -> bool {
         && header[60..508].iter().all(|&b| b == 0)
 }
 
-/// A load's own order. A grid of no given length is of the right one. Without a whole block 0 there is no more to it
-/// than 16.
-pub fn load(store: &[u8], grid: Option<usize>) -> Causes {
+/// The order of a call that asks for the shape, and a load's as far as that goes. Without a whole block 0 there is no more
+/// to it than 16.
+pub fn shape(store: &[u8]) -> Causes {
     let uneven = (16, store.is_empty() || store.len() % BLOCK != 0);
     let Some(header) = blocks(store).next() else {
         return vec![uneven];
@@ -53,7 +53,38 @@ pub fn load(store: &[u8], grid: Option<usize>) -> Causes {
         kind: s.kind.min(1),
         ..s
     }));
-    of_grid(causes, &s, store, grid)
+    then(causes, [(16, store.len() != store_length(&s))])
+}
+
+/// The shape that a store tells of whose order is passed.
+pub fn shape_of(store: &[u8]) -> Shape {
+    let s = told(store);
+    Shape {
+        rows: s.rows,
+        cols: s.cols,
+        t: s.t,
+        c: s.c,
+        grid_bytes: grid_bytes(&s) as u64,
+    }
+}
+
+/// A load's own order. A grid of no given length is of the right one.
+pub fn load(store: &[u8], grid: Option<usize>) -> Causes {
+    let causes = shape(store);
+    let Some(header) = blocks(store).next() else {
+        return causes;
+    };
+    let s = told(header);
+    let (bytes, carried) = (grid_bytes(&s), carried(store));
+    let (cells, fill) = carried.split_at(bytes.min(carried.len()));
+    then(
+        causes,
+        [
+            (18, fill.iter().any(|&b| b != 0)),
+            (6, grid.is_some_and(|lent| lent != bytes)),
+            (14, any_unsound(&s, cells)),
+        ],
+    )
 }
 
 /// What the blocks behind the first carry: the grid, and what fills up the last.
@@ -68,19 +99,4 @@ fn carried(store: &[u8]) -> Vec<u8> {
 /// Whether this cell of a store with a whole block 0 is unsound.
 pub fn unsound_at(store: &[u8], index: usize) -> bool {
     numbers::unsound_at(&told(store), &carried(store), index)
-}
-
-fn of_grid(before: Causes, s: &Sketch, store: &[u8], grid: Option<usize>) -> Causes {
-    let carried = carried(store);
-    let bytes = grid_bytes(s);
-    let (cells, fill) = carried.split_at(bytes.min(carried.len()));
-    then(
-        before,
-        [
-            (16, store.len() != store_length(s)),
-            (18, fill.iter().any(|&b| b != 0)),
-            (6, grid.is_some_and(|lent| lent != bytes)),
-            (14, any_unsound(s, cells)),
-        ],
-    )
 }

@@ -25,7 +25,7 @@ const KEPT_LIMIT: u64 = 7;
 /// Room for the columns of 66 codes of 128 rows.
 const CODE_COLUMNS: usize = 66 * 128;
 
-/// A call as it is recorded: its words, and the store of a load.
+/// A call as it is recorded: its words, and the store of a load or of a shape.
 struct Case {
     words: [u64; WORDS],
     store: &'static [u8],
@@ -44,7 +44,8 @@ fn first_of(bytes: &'static [u8]) -> (Case, &'static [u8]) {
     let (words, rest) = bytes.split_at(8 * WORDS);
     let words = std::array::from_fn(|i| u64::from_le_bytes(words[8 * i..][..8].try_into().expect("eight bytes")));
     let case = Case { words, store: &[] };
-    let (store, rest) = rest.split_at(if case.call() == "load" { size(words[33]) } else { 0 });
+    let stored = matches!(case.call(), "load" | "store_shape");
+    let (store, rest) = rest.split_at(if stored { size(words[33]) } else { 0 });
     (Case { store, ..case }, rest)
 }
 
@@ -161,6 +162,7 @@ impl Case {
             "load" => damage::load(self.store, held.grid.len()),
             "set_codes" => self.set_codes(held),
             "ask" => self.ask(held),
+            "store_shape" => damage::shape(self.store),
             _ => Err("no such call is recorded".into()),
         }
     }

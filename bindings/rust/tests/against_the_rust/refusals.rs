@@ -10,12 +10,13 @@ use crate::pair::{Pair, make};
 use crate::plain_calls;
 use crate::score::{Outcome, called, number, same, same_number};
 use crate::stores;
-use microscope::calls::{self, Sketch};
+use microscope::calls::{self, Shape, Sketch};
 use microscope::{MicroCm, MicroParams, Refusal, SubWindowClock};
 
-pub const ALL: [(&str, fn() -> Outcome); 5] = [
+pub const ALL: [(&str, fn() -> Outcome); 6] = [
     ("settings refused", settings_refused),
     ("stores refused", stores_refused),
+    ("shapes of stores", shapes),
     ("errors in words", words),
     ("the header's names and words", as_in_header),
     ("the version", version),
@@ -118,6 +119,49 @@ fn stores_refused() -> Outcome {
     other.resize(504, 0);
     other[503] = 1;
     damage::refused(&stores::of_payloads(&other, &grid), bytes, 18)
+}
+
+/// A shape is told of every store that is whole, also of one that a load refuses for its cells or for what is behind them.
+fn shapes() -> Outcome {
+    let header = stores::header(&SMALL, 0, 7);
+    let mut grid = vec![0; 96];
+    let good = stores::of_payloads(&header, &grid);
+    let behind = stores::of_payloads(&header, &[&grid[..], &[1]].concat());
+    grid[layout::zoom_of(SMALL.t as u64, 5)] = 32;
+    let unsound = stores::of_payloads(&header, &grid);
+    for (store, load) in [(&good, 0), (&behind, 18), (&unsound, 14)] {
+        let mut shape = junk::SHAPE;
+        same(
+            "the shape's answer",
+            called(calls::store_shape(store, &mut shape)),
+            Ok(()),
+        )?;
+        let right = Shape {
+            rows: 2,
+            cols: 4,
+            t: 2,
+            c: 2,
+            grid_bytes: 96,
+        };
+        same("the shape", shape, right)?;
+        damage::refused(store, 96, load)?;
+    }
+    let mut broken = good.clone();
+    broken[700] ^= 1;
+    let refused = [
+        (&good[..511], 16),
+        (&good[..512], 16),
+        (&good[512..], 17),
+        (&broken, 17),
+        (&[], 16),
+    ];
+    for (store, right) in refused {
+        let mut shape = junk::SHAPE;
+        let answer = called(calls::store_shape(store, &mut shape));
+        same_number("the shape's number", number(&answer), right)?;
+        same("the shape of a refusal", shape, Shape::default())?;
+    }
+    Ok(())
 }
 
 fn words() -> Outcome {
