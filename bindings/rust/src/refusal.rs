@@ -72,12 +72,29 @@ pub enum Refusal {
 impl Refusal {
     /// The number, 1 to 20: document 01's, and from 19 on document 02's.
     pub fn number(&self) -> u64 {
-        self.told().0
-    }
-
-    /// The number in words.
-    pub fn meaning(&self) -> &'static str {
-        self.told().1
+        match *self {
+            Self::T => 1,
+            Self::C => 2,
+            Self::Length => 3,
+            Self::Dimensions => 4,
+            Self::State => 5,
+            Self::Bytes => 6,
+            Self::Columns => 7,
+            Self::ClockKind => 8,
+            Self::Crossed => 9,
+            Self::Shapes => 10,
+            Self::Frames => 11,
+            Self::SubWindows => 12,
+            Self::Fraction => 13,
+            Self::Unsound { .. } => 14,
+            Self::Divisor => 15,
+            Self::StoreLength => 16,
+            Self::Block => 17,
+            Self::Form => 18,
+            Self::Codes => 19,
+            Self::List => 20,
+            Self::Unknown(number) => number,
+        }
     }
 
     /// The unsound cell, row × cols + column, if that is what the call was refused for.
@@ -88,35 +105,30 @@ impl Refusal {
         }
     }
 
-    fn told(&self) -> (u64, &'static str) {
-        match *self {
-            Self::T => (1, "t is not 1 to 4,096"),
-            Self::C => (2, "c is not 2 to 256"),
-            Self::Length => (
-                3,
-                "the length of a sub-window is not 1 to 2^53, or the clock is of no known kind",
-            ),
-            Self::Dimensions => (
-                4,
-                "rows is 0, cols is no power of two from 2 to 65,536, or rows x log2(cols) passes 128",
-            ),
-            Self::State => (5, "the random state is 0"),
-            Self::Bytes => (6, "the bytes lent are not as many as the cell or grid has"),
-            Self::Columns => (7, "not one column a row, or a row or column out of range"),
-            Self::ClockKind => (8, "a call for the other kind of clock"),
-            Self::Crossed => (9, "more sub-windows crossed than there were"),
-            Self::Shapes => (10, "the sketches differ in rows, cols, t or c"),
-            Self::Frames => (11, "the clocks differ in kind, length or epoch"),
-            Self::SubWindows => (12, "the sketches have not reached the same sub-window"),
-            Self::Fraction => (13, "the fraction is not within 0 and 1"),
-            Self::Unsound { .. } => (14, "unsound cell"),
-            Self::Divisor => (15, "the divisor is 0"),
-            Self::StoreLength => (16, "the store is not the exact length"),
-            Self::Block => (17, "a block of the store fails its check or has another's number"),
-            Self::Form => (18, "not a store of this form"),
-            Self::Codes => (19, "more than 64 codes"),
-            Self::List => (20, "the list has less room than there are codes"),
-            Self::Unknown(number) => (number, "a number that this wrapper does not know"),
+    /// The number in words.
+    pub fn meaning(&self) -> &'static str {
+        match self.number() {
+            1 => "t is not 1 to 4,096",
+            2 => "c is not 2 to 256",
+            3 => "the length of a sub-window is not 1 to 2^53, or the clock is of no known kind",
+            4 => "rows is 0, cols is no power of two from 2 to 65,536, or rows x log2(cols) passes 128",
+            5 => "the random state is 0",
+            6 => "the bytes lent are not as many as the cell or grid has",
+            7 => "not one column a row, or a row or column out of range",
+            8 => "a call for the other kind of clock",
+            9 => "more sub-windows crossed than there were",
+            10 => "the sketches differ in rows, cols, t or c",
+            11 => "the clocks differ in kind, length or epoch",
+            12 => "the sketches have not reached the same sub-window",
+            13 => "the fraction is not within 0 and 1",
+            14 => "unsound cell",
+            15 => "the divisor is 0",
+            16 => "the store is not the exact length",
+            17 => "a block of the store fails its check or has another's number",
+            18 => "not a store of this form",
+            19 => "more than 64 codes",
+            20 => "the list has less room than there are codes",
+            _ => "a number that this wrapper does not know",
         }
     }
 
