@@ -24,6 +24,7 @@ mod numbers;
 mod pair;
 mod pairs;
 mod plain_calls;
+mod plain_readings;
 mod random_calls;
 mod refusals;
 mod score;

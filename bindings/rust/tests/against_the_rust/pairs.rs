@@ -6,6 +6,7 @@ use crate::held::Held;
 use crate::hits::CALLS;
 use crate::layout;
 use crate::plain_calls::{self, Told};
+use crate::plain_readings;
 use crate::score::{Outcome, same, same_bytes};
 use microscope::calls::{KEPT_COLUMNS, MOST_CODES, Sketch, Watch};
 
@@ -150,15 +151,15 @@ impl Case {
             "update" => plain_calls::update(held, &key),
             "update_at" => plain_calls::update_at(held, &key, argument),
             "advance_to" => plain_calls::advance_to(held, argument),
-            "estimate" => plain_calls::estimate(held, &key),
-            "estimate_with" => plain_calls::estimate_with(held, &key, f64::from_bits(argument)),
-            "mean" => plain_calls::mean(held, &key),
-            "bucket_check" => plain_calls::bucket_check(held, argument, column),
-            "max_zoom" => plain_calls::max_zoom(held),
-            "audit" => plain_calls::audit(held),
+            "estimate" => plain_readings::estimate(held, &key),
+            "estimate_with" => plain_readings::estimate_with(held, &key, f64::from_bits(argument)),
+            "mean" => plain_readings::mean(held, &key),
+            "bucket_check" => plain_readings::bucket_check(held, argument, column),
+            "max_zoom" => plain_readings::max_zoom(held),
+            "audit" => plain_readings::audit(held),
             "merge" => plain_calls::merge(held, other),
-            "store_length" => plain_calls::store_length(held),
-            "save" => plain_calls::save(held, size(room)),
+            "store_length" => plain_readings::store_length(held),
+            "save" => plain_readings::save(held, size(room)),
             "load" => damage::load(self.store, held.grid.len()),
             "set_codes" => self.set_codes(held),
             "ask" => self.ask(held),

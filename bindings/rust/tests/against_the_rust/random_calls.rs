@@ -4,6 +4,7 @@ use crate::choose::Dice;
 use crate::held::{Held, WIDE, held, spoil};
 use crate::numbers;
 use crate::plain_calls::{self, Told};
+use crate::plain_readings;
 use crate::score::Outcome;
 use crate::stories::{self, FRACTIONS};
 use microscope::calls::Sketch;
@@ -23,26 +24,26 @@ fn changes(dice: &mut Dice, before: &Held, key: &[u32]) -> Told {
 
 fn readings(dice: &mut Dice, held: &Held, key: &[u32]) -> Told {
     match dice.below(4) {
-        0 => plain_calls::mean(held, key),
-        1 => plain_calls::estimate(held, key),
-        _ => plain_calls::estimate_with(held, key, dice.one_of(&FRACTIONS)),
+        0 => plain_readings::mean(held, key),
+        1 => plain_readings::estimate(held, key),
+        _ => plain_readings::estimate_with(held, key, dice.one_of(&FRACTIONS)),
     }
 }
 
 fn looks(dice: &mut Dice, held: &Held) -> Told {
     let s = held.sketch;
-    plain_calls::max_zoom(held)?;
-    plain_calls::audit(held)?;
+    plain_readings::max_zoom(held)?;
+    plain_readings::audit(held)?;
     let row = dice.one_of(&[0, s.rows, s.rows.wrapping_sub(1), WIDE, u64::MAX]);
     let col = dice.one_of(&[0, s.cols, s.cols.wrapping_sub(1), WIDE, u64::MAX]);
-    plain_calls::bucket_check(held, row, col)
+    plain_readings::bucket_check(held, row, col)
 }
 
 fn saves(dice: &mut Dice, held: &Held) -> Told {
-    plain_calls::store_length(held)?;
+    plain_readings::store_length(held)?;
     // A grid that was never there could ask for more room than there is.
     let room = numbers::store_length(&held.sketch).min(10_000) + dice.one_of(&[0, 0, 0, 1, 512]);
-    plain_calls::save(held, room)
+    plain_readings::save(held, room)
 }
 
 /// With another of the same settings, or of its own.

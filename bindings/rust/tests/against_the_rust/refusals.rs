@@ -8,6 +8,7 @@ use crate::layout;
 use crate::numbers;
 use crate::pair::{Pair, make};
 use crate::plain_calls;
+use crate::plain_readings;
 use crate::score::{Outcome, called, number, same, same_number};
 use crate::stores;
 use microscope::calls::{self, Shape, Sketch};
@@ -65,9 +66,9 @@ fn plain_refused(spoil: impl Fn(&mut Sketch), right: u64) -> Outcome {
     spoil(&mut held.sketch);
     for told in [
         plain_calls::start(&held, 1),
-        plain_calls::store_length(&held),
+        plain_readings::store_length(&held),
         plain_calls::update(&held, &[0, 0]),
-        plain_calls::audit(&held),
+        plain_readings::audit(&held),
     ] {
         same_number("the number of such a sketch", told?.0, right)?;
     }
