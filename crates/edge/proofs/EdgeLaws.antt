@@ -5,6 +5,9 @@ use mathlib.Core.List.{List, [], _∷_}
 use lib.Ieee.{Float}
 use Rattle.refusal.specs.declared.Verdict.{Verdict}
 use Rattle.refusal.specs.Refusals.{numberOf, indexOf, whenAccepted}
+use Rattle.rounding.specs.declared.DrawAnswer.{DrawAnswer}
+use Rattle.rounding.specs.declared.DivisionAnswer.{DivisionAnswer}
+use Rattle.rounding.specs.Refusals.{drawCall, divisionCall}
 use Rattle.cell.specs.declared.MicroParams.{MicroParams}
 use Rattle.cell.specs.declared.LayoutAnswer.{LayoutAnswer}
 use Rattle.cell.specs.declared.ZoomAnswer.{ZoomAnswer}
@@ -19,7 +22,7 @@ use Rattle.sketch.specs.declared.ReadingAnswer.{ReadingAnswer}
 use Rattle.sketch.specs.declared.MeanAnswer.{MeanAnswer}
 use Rattle.sketch.specs.declared.HighestAnswer.{HighestAnswer}
 use Rattle.sketch.specs.declared.AuditAnswer.{AuditAnswer}
-use Rattle.sketch.specs.Refusals.{SketchOutcome, sketchOutcome, updateCall, updateAtCall, advanceCall, mergeCall}
+use Rattle.sketch.specs.Refusals.{SketchOutcome, sketchOutcome, updateCall, advanceCall, mergeCall}
 use Rattle.sketch.specs.Refusals.{readCall, readWithCall, meanCall, bucketVerdict, highestCall, auditCall}
 use Rattle.store.specs.declared.LengthAnswer.{LengthAnswer}
 use Rattle.store.specs.Refusals.{saveOutcome, lengthCall, saveCall}
@@ -33,23 +36,19 @@ use Rattle.service.specs.declared.ServiceAnswer.{ServiceAnswer}
 use Rattle.service.specs.Service.{ServiceOutcome, serviceOutcome, startCall, loadCall}
 use Rattle.edge_values.specs.Edge.{clockOf, baseOf, paramsOf, sketchOf, watchOf, watchWords, wordsAfter, changeOf, changed, changedOf}
 use Rattle.edge_values.specs.Edge.{sketchAfter, codesAfter, started, startedOf, loaded, loadedOf, figuresOf, itemsOf, read, readOf}
-use Rattle.edge_values.specs.Edge.{valued, told, foundOf, shapeWords, saved, savedOf, codesSet, codesSetOf, codesAsked, codesAskedOf, celled, celledOf, pixel}
-use Rattle.edge.specs.Calls.{startedWith, loadedFrom, updated, updatedAt, advanced, merged, estimated, estimatedWith, meanTold, highestTold, audited}
+use Rattle.edge_values.specs.Edge.{valued, told, foundOf, shapeWords, saved, savedOf, codesSet, codesSetOf, codesAsked, codesAskedOf, celled, celledOf, pixel, drawn, divided}
+use Rattle.edge.specs.Calls.{startedWith, loadedFrom, updated, advanced, merged, estimated, estimatedWith, meanTold, highestTold, audited}
 use Rattle.edge.specs.Calls.{storeLengthTold, savedAs, shapeTold, codesSetBy, codesAskedBy, depthTold, baseTold, zoomTold, shutterTold, pixelTold}
-use Rattle.edge.specs.Calls.{inserted, entered, cellsMerged}
+use Rattle.edge.specs.Calls.{inserted, entered, cellsMerged, drawnFrom, dividedBy}
 
 -- CALLS THAT CHANGE A SKETCH
 module _ (w w' l : List ℕ) (k : MicroCm) (ek : k ≡ sketchOf w) (a : SketchAnswer) (g' : List ℕ) (r : ℕ)
     (left : (r ≡ numberOf (a .verdict)) × (w' ≡ wordsAfter w a) × (l ≡ changeOf (a .verdict) (a .draws))) where
-  put : (o : SketchOutcome) → sketchOutcome a g' ≡ o → changed r w' g' l ≡ changedOf w o
+  pub put : (o : SketchOutcome) → sketchOutcome a g' ≡ o → changed r w' g' l ≡ changedOf w o
   put o e = rw (left .0, left .1, left .2) (ap (changedOf w) e)
 
   pub update-put : (key g : List ℕ) → sketchOutcome a g' ≡ updateCall k key g → changed r w' g' l ≡ updated w key g
   update-put key g e = put (updateCall (sketchOf w) key g) (e ∙ rw ek)
-
-  pub update-at-put : (key : List ℕ) (time : ℕ) (g : List ℕ) → sketchOutcome a g' ≡ updateAtCall k key time g
-      → changed r w' g' l ≡ updatedAt w key time g
-  update-at-put key time g e = put (updateAtCall (sketchOf w) key time g) (e ∙ rw ek)
 
   pub advance-put : (time : ℕ) (g : List ℕ) → sketchOutcome a g' ≡ advanceCall k time g → changed r w' g' l ≡ advanced w time g
   advance-put time g e = put (advanceCall (sketchOf w) time g) (e ∙ rw ek)
@@ -180,3 +179,14 @@ module _ (r : ℕ) where
       pub merge-cell-put : (src : List ℕ) → cells.cellOutcome b' a ≡ cells.mergeCall params n b src state
           → celled r b' state' l ≡ cellsMerged t c n b src state
       merge-cell-put src e = cell-put (cells.mergeCall (paramsOf t c) n b src state) (e ∙ rw ep)
+
+-- THE DRAWS
+module _ (r state state' : ℕ) where
+  pub draw-told : (a : DrawAnswer) (value : ℕ) → a ≡ drawCall state
+      → (r ≡ numberOf (a .verdict)) × (state' ≡ a .rounding .state) × (value ≡ a .value) → drawn r state' value ≡ drawnFrom state
+  draw-told a value e left = rw (left .0, left .1, left .2, e) refl
+
+  pub division-told : (a : DivisionAnswer) (value divisor quotient : ℕ) (l : List ℕ) → a ≡ divisionCall value divisor state
+      → (r ≡ numberOf (a .verdict)) × (state' ≡ a .rounding .state) × (quotient ≡ a .value) × (l ≡ changeOf (a .verdict) (a .draws))
+      → divided r state' quotient l ≡ dividedBy value divisor state
+  division-told a value divisor quotient l e left = rw (left .0, left .1, left .2, left .3, e) refl

@@ -3,6 +3,7 @@
 use Prim.Native.Nat.{ℕ}
 use mathlib.Core.List.{List}
 use lib.Ieee.{Float}
+use Rattle.rounding.specs.Refusals.{drawCall, divisionCall}
 use Rattle.cell.specs.Refusals as cells
 use Rattle.sketch.specs.Refusals.{updateCall, updateAtCall, advanceCall, mergeCall, readCall, readWithCall, meanCall, highestCall, auditCall}
 use Rattle.store.specs.Refusals.{lengthCall, saveCall}
@@ -11,7 +12,7 @@ use Rattle.codes.specs.Refusals.{setCall, askCall}
 use Rattle.service.specs.Service.{startCall, loadCall}
 use Rattle.edge_values.specs.Edge.{clockOf, baseOf, paramsOf, sketchOf, watchOf, Changed, changedOf, Started, startedOf, Loaded, loadedOf}
 use Rattle.edge_values.specs.Edge.{Read, readOf, Valued, valueOf, Told, toldOf, auditOf, shapeOf, Saved, savedOf, CodesSet, codesSetOf, CodesAsked, codesAskedOf}
-use Rattle.edge_values.specs.Edge.{Celled, celledOf, Pixel, pixelOf}
+use Rattle.edge_values.specs.Edge.{Celled, celledOf, Pixel, pixelOf, Drawn, drawnOf, Divided, dividedOf}
 
 -- the second form of the edge, as MICROSCOPE_VERSION in the header: 10,000 × 2
 abbrev pub version : ℕ
@@ -95,3 +96,10 @@ entered t c n crossed b state = celledOf (cells.crossCall (paramsOf t c) n cross
 
 abbrev pub cellsMerged : (t c n : ℕ) → List ℕ → List ℕ → ℕ → Celled
 cellsMerged t c n b b' state = celledOf (cells.mergeCall (paramsOf t c) n b b' state)
+
+-- THE DRAWS
+abbrev pub drawnFrom : ℕ → Drawn
+drawnFrom state = drawnOf (drawCall state)
+
+abbrev pub dividedBy : (value divisor state : ℕ) → Divided
+dividedBy value divisor state = dividedOf (divisionCall value divisor state)

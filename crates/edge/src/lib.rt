@@ -4,6 +4,7 @@
 // value, so that any machine's C can call. A sketch is nine words that the caller keeps. A call returns document 01's number, 0 if
 // it was accepted. What it changes a refused call leaves; what it tells is written either way. include/microscope.h names the words.
 pub mod cells;
+pub mod draws;
 pub mod sketches;
 pub mod stores;
 pub mod watched;

@@ -4,7 +4,7 @@ ghost use mathlib.Core.Path.{_≡_};
 ghost use Rattle.refusal.specs.Refusals.{numberOf};
 ghost use Rattle.sketch.specs.Refusals.{bucketVerdict};
 ghost use Rattle.edge_values.specs.Edge.{sketchOf, started, changed, read, told};
-ghost use Rattle.edge.specs.Calls.{startedWith, updated, updatedAt, advanced, merged};
+ghost use Rattle.edge.specs.Calls.{startedWith, updated, advanced, merged};
 ghost use Rattle.edge.specs.Calls.{estimated, estimatedWith, meanTold, highestTold, audited};
 
 // A fresh sketch, and no codes: every byte of the grid is written 0. Any seed will do.
@@ -44,23 +44,6 @@ pub extern "C" fn microscope_update(
 {
     let core = edge_values::sketch(sketch);
     let answer = sketch_counting::update(core, &key[..], grid);
-    edge_answers::changed(sketch, change, answer)
-}
-
-// One item on a clock of time.
-#[no_mangle]
-pub extern "C" fn microscope_update_at(
-    sketch: &mut [u64; 9],
-    key: &[u32],
-    timestamp: u64,
-    grid: &mut [u8],
-    change: &mut [u64; 3],
-) -> u64
-    ensures { λ r. ⌜ changed r (now (sketch .exit)) (now (grid .exit)) (now (change .exit))
-        ≡ updatedAt (now (sketch .entry)) (now (key .entry)) timestamp (now (grid .entry)) ⌝ }
-{
-    let core = edge_values::sketch(sketch);
-    let answer = sketch_counting::update_at(core, &key[..], timestamp, grid);
     edge_answers::changed(sketch, change, answer)
 }
 

@@ -4,6 +4,8 @@ use cell::CellAnswer;
 use codes::AskAnswer;
 use codes::WatchAnswer;
 use refusal::Verdict;
+use rounding::DivisionAnswer;
+use rounding::DrawAnswer;
 use service::ServiceAnswer;
 use sketch::AuditAnswer;
 use sketch::Finding;
@@ -163,6 +165,33 @@ pub fn drawn(state: &mut u64, change: &mut [u64; 3], answer: CellAnswer) -> u64
     let verdict = answer.verdict;
     let rounding = answer.rounding;
     *state = rounding.state;
+    *change = [edge_values::index(verdict), answer.draws as u64, 0];
+    edge_values::number(verdict)
+}
+
+pub fn drew(state: &mut u64, value: &mut u64, answer: DrawAnswer) -> u64
+    ensures { λ r. ⌜ (r ≡ numberOf (answer .verdict)) × (now (state .exit) ≡ answer .rounding .state) × (now (value .exit) ≡ answer .value) ⌝ }
+{
+    let verdict = answer.verdict;
+    let rounding = answer.rounding;
+    *state = rounding.state;
+    *value = answer.value;
+    edge_values::number(verdict)
+}
+
+pub fn divided(
+    state: &mut u64,
+    quotient: &mut u64,
+    change: &mut [u64; 3],
+    answer: DivisionAnswer,
+) -> u64
+    ensures { λ r. ⌜ (r ≡ numberOf (answer .verdict)) × (now (state .exit) ≡ answer .rounding .state)
+        × (now (quotient .exit) ≡ answer .value) × (now (change .exit) ≡ changeOf (answer .verdict) (answer .draws)) ⌝ }
+{
+    let verdict = answer.verdict;
+    let rounding = answer.rounding;
+    *state = rounding.state;
+    *quotient = answer.value;
     *change = [edge_values::index(verdict), answer.draws as u64, 0];
     edge_values::number(verdict)
 }

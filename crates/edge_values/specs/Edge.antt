@@ -8,6 +8,8 @@ use lib.Ieee.{Float}
 use lib.ListN.{getD, set}
 use Rattle.refusal.specs.declared.Verdict.{Verdict}
 use Rattle.refusal.specs.Refusals.{numberOf, indexOf, whenAccepted}
+use Rattle.rounding.specs.declared.DrawAnswer.{DrawAnswer}
+use Rattle.rounding.specs.declared.DivisionAnswer.{DivisionAnswer}
 use Rattle.cell.specs.declared.MicroParams.{MicroParams}
 use Rattle.cell.specs.declared.PixelAnswer.{PixelAnswer}
 use Rattle.cell.specs.Refusals.{CellOutcome}
@@ -248,3 +250,27 @@ pixel number items = record { number = number; items = items }
 
 abbrev pub pixelOf : PixelAnswer → Pixel
 pixelOf a = pixel (numberOf (a .verdict)) (a .items)
+
+-- THE DRAWS: the random state in its place
+pub record Drawn : Type 0 where
+  pub number : ℕ
+  pub state : ℕ
+  pub value : ℕ
+
+abbrev pub drawn : ℕ → ℕ → ℕ → Drawn
+drawn number state value = record { number = number; state = state; value = value }
+
+abbrev pub drawnOf : DrawAnswer → Drawn
+drawnOf a = drawn (numberOf (a .verdict)) (a .rounding .state) (a .value)
+
+pub record Divided : Type 0 where
+  pub number : ℕ
+  pub state : ℕ
+  pub quotient : ℕ
+  pub change : List ℕ
+
+abbrev pub divided : ℕ → ℕ → ℕ → List ℕ → Divided
+divided number state quotient change = record { number = number; state = state; quotient = quotient; change = change }
+
+abbrev pub dividedOf : DivisionAnswer → Divided
+dividedOf a = divided (numberOf (a .verdict)) (a .rounding .state) (a .value) (changeOf (a .verdict) (a .draws))

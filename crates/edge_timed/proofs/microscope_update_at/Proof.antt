@@ -1,8 +1,8 @@
 -- `microscope_update_at`. Assumes nothing.
-use Rattle.edge.proofs.EdgeLaws.{update-at-put}
+use Rattle.edge_timed.proofs.TimedLaws.{update-at-put}
 use borrow.Author.Needs.{needs}
-use Rattle.edge.proofs.sketches.microscope_update_at.Statement.{statement}
-use Rattle.edge.proofs.sketches.microscope_update_at.Tie as tie
+use Rattle.edge_timed.proofs.microscope_update_at.Statement.{statement}
+use Rattle.edge_timed.proofs.microscope_update_at.Tie as tie
 
 sketch-requires : tie.Need-sketch-requires
 sketch-requires c κs = search needs
