@@ -28,9 +28,10 @@
  * STACK. A merge takes about 17 KB of stack, of which 16 are its table of sums; every other call less than 4 KB.
  * (Seen in the machine code of x86-64, not proved.)
  *
- * REFUSALS. Every call but microscope_version returns a number: 0 if it was accepted, else why it was refused, and then
- * the sketch, the codes and every byte lent are as they were. What a call tells (microscope_change, figures, items, an
- * index, a length ..) is written either way: 0 where it was refused, but for the index of an unsound cell.
+ * REFUSALS. Every call but microscope_version and microscope_rounding_new, which refuse nothing, returns a number: 0 if it
+ * was accepted, else why it was refused, and then the sketch, the codes, a random state and every byte lent are as they
+ * were. What a call tells (microscope_change, figures, items, an index, a length ..) is written either way: 0 where it was
+ * refused, but for the index of an unsound cell.
  * If more than one number applies it is the one that comes first in this order: 1 to 7, 19, 20, 8 to 18. So it is the
  * lowest, but that 19 and 20, which are newer, rank by their place: after 7, before 8 and 14. A load has an order of its
  * own: see there.
@@ -65,7 +66,7 @@ enum {
     MICROSCOPE_SUB_WINDOWS = 12, /* merge: the sub-windows reached differ */
     MICROSCOPE_FRACTION = 13,    /* the given fraction is NaN or not within 0 and 1, and there is an oldest sub-window */
     MICROSCOPE_UNSOUND = 14,     /* an unsound cell; `index` is row x cols + column of it, and 0 in a call on one cell */
-    MICROSCOPE_DIVISOR = 15,     /* a divisor of 0: the core's own calls only, none below gives it */
+    MICROSCOPE_DIVISOR = 15,     /* a divisor of 0 */
     MICROSCOPE_STORE_LENGTH = 16, /* a store is not the exact length */
     MICROSCOPE_BLOCK = 17,       /* a block's check or number: the store is damaged */
     MICROSCOPE_FORM = 18,        /* not a store of this form: the form's number, the clock's kind, or a byte that must be 0 */
@@ -162,7 +163,7 @@ typedef struct {
     uint64_t reached; /* code i was at its limit or above at the last asking: the bit of value 2^i */
 } microscope_watch;
 
-/* What a call that may change a sketch or a cell tells. */
+/* What a call tells that may change a sketch or a cell, or that divides. */
 typedef struct {
     uint64_t index; /* with 14, else 0 */
     uint64_t draws; /* random draws that the call made */
@@ -396,6 +397,25 @@ uint64_t microscope_cell_enter_sub_window(uint8_t *cell, size_t cell_bytes, uint
 /* Adds the counts of src to those of dst, both being in sub-window n. src is only read. */
 uint64_t microscope_cell_merge(uint8_t *dst, size_t dst_bytes, const uint8_t *src, size_t src_bytes, uint64_t t,
                                uint64_t c, uint64_t n, uint64_t *state, microscope_change *change);
+
+/*
+ * ---- the draws by themselves, for teaching and test ----
+ *
+ * A random state that is lent is changed in its place, if a draw was made. An index is 0 here.
+ */
+
+/* The random state of any seed, never 0: that is what this returns. */
+uint64_t microscope_rounding_new(uint64_t seed);
+
+/* One draw: `value` is a number from 1 to 2^64 - 1. Refused by 5. */
+uint64_t microscope_next_u64(uint64_t *state, uint64_t *value);
+
+/*
+ * value / divisor, where a remainder is rounded up with the probability that it has of the divisor. One draw is made, or
+ * none if nothing remains. Refused by 5, 15.
+ */
+uint64_t microscope_unbiased_div_u64(uint64_t value, uint64_t divisor, uint64_t *state, uint64_t *quotient,
+                                     microscope_change *change);
 
 /* ---- the layouts that the library was compiled with ---- */
 

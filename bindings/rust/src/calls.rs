@@ -172,6 +172,15 @@ unsafe extern "C" {
         state: *mut u64,
         change: *mut Change,
     ) -> u64;
+    fn microscope_rounding_new(seed: u64) -> u64;
+    fn microscope_next_u64(state: *mut u64, value: *mut u64) -> u64;
+    fn microscope_unbiased_div_u64(
+        value: u64,
+        divisor: u64,
+        state: *mut u64,
+        quotient: *mut u64,
+        change: *mut Change,
+    ) -> u64;
 }
 
 /// The number of a call in which there is no cell to name: it judges none, or one only.
@@ -533,4 +542,30 @@ pub fn cell_merge(
     let (to, bytes) = (dst.as_mut_ptr(), dst.len());
     // SAFETY: both cells come with their own lengths; dst, state and change are borrowed exclusively.
     told(unsafe { microscope_cell_merge(to, bytes, src.as_ptr(), src.len(), t, c, n, state, change) })
+}
+
+// ---- the draws by themselves ----
+
+/// The random state of a seed, never 0.
+pub fn rounding_new(seed: u64) -> u64 {
+    // SAFETY: nothing is lent.
+    unsafe { microscope_rounding_new(seed) }
+}
+
+/// One draw.
+pub fn next_u64(state: &mut u64, value: &mut u64) -> Result<(), Refusal> {
+    // SAFETY: state and value are borrowed exclusively.
+    told(unsafe { microscope_next_u64(state, value) })
+}
+
+/// value / divisor, the remainder rounded up with the probability that it has of the divisor.
+pub fn unbiased_div_u64(
+    value: u64,
+    divisor: u64,
+    state: &mut u64,
+    quotient: &mut u64,
+    change: &mut Change,
+) -> Result<(), Refusal> {
+    // SAFETY: state, quotient and change are borrowed exclusively.
+    told(unsafe { microscope_unbiased_div_u64(value, divisor, state, quotient, change) })
 }

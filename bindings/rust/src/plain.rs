@@ -79,7 +79,7 @@ pub struct Watch {
     pub reached: u64,
 }
 
-/// What a call that may change a sketch or a cell tells.
+/// What a call tells that may change a sketch or a cell, or that divides.
 ///
 /// ```
 /// use microscope::Refusal;

@@ -53,7 +53,7 @@ pub enum Refusal {
         /// The cell: row × cols + column, and 0 in a call on one cell.
         index: usize,
     },
-    /// 15: a divisor of 0; no call of the library gives it.
+    /// 15: a divisor of 0.
     Divisor,
     /// 16: the store is not the exact length.
     StoreLength,
