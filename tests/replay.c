@@ -3,27 +3,24 @@
  *
  *   replay FOLDER     the folder of the files draws, cells, clock and sketches: crates/try_replay/data
  *
- * docs/ORACLE.md has their formats. Of each kind of record it prints how many were replayed, and for how many the edge has no
- * call: nothing is reckoned in C in the library's place. What no call tells is not compared: how many pixels a cell has; of a
- * clock, n but modulo 251, and more than 251 sub-windows crossed. Of the first record from which something else came all that
- * differs is told; if there is one it exits 1. replay.out has what this must print.
+ * docs/ORACLE.md has their formats. Every record is replayed and all that it answers compared; of each kind it prints how many
+ * there were. Two kinds are no calls but steps, which set numbers or bytes in the caller's memory. The sub-window that a clock
+ * has reached is told by no call: it is reckoned from the reading, by the header's words. Of the first record from which
+ * something else came all that differs is told; if there is one it exits 1. replay.out has what this must print.
  */
 #include "replay_cells.h"
 #include "replay_clock.h"
 #include "replay_draws.h"
 #include "replay_sketches.h"
 
-static uint64_t replayed, without;
+/* Records that are calls, and records that are steps. */
+static uint64_t calls, steps;
 
 static void report(const struct kind *kinds, size_t count) {
     for (size_t i = 1; i < count; i++) {
-        printf("%s, %s: %" PRIu64 " replayed", now.file, kinds[i].name, kinds[i].replayed);
-        if (kinds[i].without > 0) {
-            printf(", %" PRIu64 " without a call", kinds[i].without);
-        }
-        printf("\n");
-        replayed += kinds[i].replayed;
-        without += kinds[i].without;
+        printf("%s, %s: %" PRIu64 " %s\n", now.file, kinds[i].name, kinds[i].records,
+               kinds[i].step ? "steps in the caller's memory" : "replayed");
+        *(kinds[i].step ? &steps : &calls) += kinds[i].records;
     }
 }
 
@@ -50,7 +47,8 @@ int main(int argc, char **argv) {
     replay(argv[1], "cells", replay_cells, cell_kinds, CELL_KINDS);
     replay(argv[1], "clock", replay_clock, clock_kinds, CLOCK_KINDS);
     replay(argv[1], "sketches", replay_sketches, sketch_kinds, SKETCH_KINDS);
-    printf("%" PRIu64 " records: %" PRIu64 " replayed, %" PRIu64 " without a call, %" PRIu64 " differences\n",
-           replayed + without, replayed, without, differences);
+    printf("%" PRIu64 " records: %" PRIu64 " replayed through calls, %" PRIu64 " steps in the caller's memory, %" PRIu64
+           " differences\n",
+           calls + steps, calls, steps, differences);
     return differences != 0;
 }

@@ -7,11 +7,14 @@
 
 #include "tests.h"
 
-/* A kind of record, and how many there were of it: replayed, and such that the edge has no call for. */
+/*
+ * A kind of record, and how many there were of it. A step is no call: it writes to the sketch or its grid, which are the
+ * caller's, and so is done here by an assignment.
+ */
 struct kind {
     const char *name;
-    uint64_t replayed;
-    uint64_t without;
+    bool step;
+    uint64_t records;
 };
 
 /* The record that is replayed: its file, its place there from 1 on, its kind, and whether something else came. */
@@ -64,6 +67,14 @@ static inline uint64_t bits_of(double number) {
     uint64_t bits;
     memcpy(&bits, &number, sizeof bits);
     return number == number ? bits : UINT64_C(0x7FF8000000000000);
+}
+
+/* The sub-window reached, by the header's words: no call tells it. */
+static inline uint64_t sub_window(const microscope_sketch *sketch) {
+    if (sketch->kind == MICROSCOPE_ITEMS) {
+        return sketch->reading / sketch->length;
+    }
+    return sketch->reading < sketch->epoch ? 0 : (sketch->reading - sketch->epoch) / sketch->length;
 }
 
 /* ---- reading ---- */
@@ -128,9 +139,8 @@ static inline void hold_bytes(const char *what, const uint8_t *expected, const u
     }
 }
 
-static inline void end_record(struct kind *kind, bool replayed) {
-    kind->replayed += replayed;
-    kind->without += !replayed;
+static inline void end_record(struct kind *kind) {
+    kind->records++;
     differences += now.differs;
 }
 

@@ -1,4 +1,4 @@
-/* The file `cells`: the edge has each of these calls, but does not tell how many pixels a cell has. */
+/* The file `cells`: the edge has each of these calls. How many pixels a cell has is seen by which of its bytes a call reads. */
 #ifndef REPLAY_CELLS_H
 #define REPLAY_CELLS_H
 
@@ -7,11 +7,11 @@
 enum { INSERT = 1, ENTER = 2, MERGE_CELLS = 3, LAYOUT = 4, FIELDS = 5, CELL_KINDS = 6 };
 
 static struct kind cell_kinds[CELL_KINDS] = {
-    [INSERT] = {"insert", 0, 0},
-    [ENTER] = {"enter_sub_window", 0, 0},
-    [MERGE_CELLS] = {"merge_cells", 0, 0},
-    [LAYOUT] = {"depth and max_zoom", 0, 0},
-    [FIELDS] = {"zoom, shutter and scaled_pixel", 0, 0},
+    [INSERT] = {.name = "insert"},
+    [ENTER] = {.name = "enter_sub_window"},
+    [MERGE_CELLS] = {.name = "merge_cells"},
+    [LAYOUT] = {.name = "depth and max_zoom"},
+    [FIELDS] = {.name = "zoom, shutter and scaled_pixel"},
 };
 
 /* The call works on the record's first cell and must leave its last; between them stands one that is merged in. */
@@ -42,12 +42,30 @@ static void change_cell(const uint8_t *record, uint8_t *cells) {
     free(src);
 }
 
+/* There are so many pixels, if sub-window pixels - 1 is read from the last of them, and the one behind it from the first. */
+static void hold_pixels(const uint8_t *record, uint64_t pixels) {
+    size_t depth = u16_at(record, 6);
+    uint64_t t = u16_at(record, 2), c = u16_at(record, 4);
+    uint8_t *cell = exactly(depth);
+    double last, behind;
+    hold("pixels within the cell", 1, 0 < pixels && pixels <= depth);
+    memset(cell, 0, depth);
+    cell[0] = 1;
+    cell[(pixels - 1) % depth] = 2;
+    hold("refused by", 0, microscope_cell_scaled_pixel(cell, depth, t, c, pixels - 1, &last));
+    hold("refused by", 0, microscope_cell_scaled_pixel(cell, depth, t, c, pixels, &behind));
+    hold("bits of the last pixel", bits_of(2), bits_of(last));
+    hold("bits of the one behind it", bits_of(1), bits_of(behind));
+    free(cell);
+}
+
 static void lay_out(const uint8_t *record) {
     uint64_t depth, zoom;
     hold("refused by", 0, microscope_depth(u16_at(record, 2), u16_at(record, 4), &depth));
     hold("refused by", 0, microscope_base_max_zoom(u16_at(record, 4), &zoom));
     hold("depth", u16_at(record, 6), depth);
     hold("max_zoom", u64_at(record, 24), zoom);
+    hold_pixels(record, u64_at(record, 16));
 }
 
 static void read_cell(const uint8_t *record, const uint8_t *cell) {
@@ -87,7 +105,7 @@ static void replay_cells(FILE *in) {
         hold("cells behind the record", cells_behind[byte_at(record, 0)], byte_at(record, 1));
         uint8_t *cells = bytes_from(in, byte_at(record, 1) * u16_at(record, 6));
         replay_cell(record, cells);
-        end_record(kind, true);
+        end_record(kind);
         free(cells);
     }
 }

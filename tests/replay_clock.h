@@ -7,6 +7,8 @@
  *     sub-windows crossed   are the pixels of the second cell that were cleared, up to all of them
  *     n, modulo PIXELS      is the pixel that one more item credits
  *     same_frame            is that a merge is not refused by 11
+ *
+ * All of n and of the sub-windows crossed is held to what the header says of the reading that the call left.
  */
 #ifndef REPLAY_CLOCK_H
 #define REPLAY_CLOCK_H
@@ -16,10 +18,10 @@
 enum { CLOCK_READ = 1, TICK = 2, CLOCK_ADVANCE = 3, SAME_FRAME = 4, CLOCK_KINDS = 5 };
 
 static struct kind clock_kinds[CLOCK_KINDS] = {
-    [CLOCK_READ] = {"n and fraction", 0, 0},
-    [TICK] = {"tick", 0, 0},
-    [CLOCK_ADVANCE] = {"advance_to", 0, 0},
-    [SAME_FRAME] = {"same_frame", 0, 0},
+    [CLOCK_READ] = {.name = "n and fraction"},
+    [TICK] = {.name = "tick"},
+    [CLOCK_ADVANCE] = {.name = "advance_to"},
+    [SAME_FRAME] = {.name = "same_frame"},
 };
 
 /* As many pixels as a prime. */
@@ -99,6 +101,7 @@ static void replay_one_clock(const uint8_t *record) {
     uint64_t crossed = u64_at(record, 56);
     microscope_sketch sketch =
         sketch_with(byte_at(record, 1), u64_at(record, 8), u64_at(record, 16), u64_at(record, 24));
+    uint64_t before = sub_window(&sketch);
     uint8_t *grid = grid_of_ones();
     microscope_figures figures;
     microscope_items items;
@@ -107,10 +110,12 @@ static void replay_one_clock(const uint8_t *record) {
         compare_frames(&sketch, record);
     }
     hold("seen or now", u64_at(record, frames ? 24 : 48), sketch.reading);
-    hold("crossed", crossed < PIXELS ? crossed : PIXELS, cleared(second_cell(grid)));
+    hold("n", u64_at(record, 64), sub_window(&sketch));
+    hold("crossed", crossed, sub_window(&sketch) - before);
+    hold("pixels cleared", crossed < PIXELS ? crossed : PIXELS, cleared(second_cell(grid)));
     hold("refused by", 0, microscope_estimate(&sketch, second_key, 1, grid, CLOCK_GRID, &figures, &items));
     hold("bits of the fraction", bits_of(double_of(u64_at(record, 72))), bits_of(figures.fraction));
-    hold("n modulo 251", u64_at(record, 64) % PIXELS, credited(&sketch, grid));
+    hold("the pixel credited, n modulo 251", u64_at(record, 64) % PIXELS, credited(&sketch, grid));
     free(grid);
 }
 
@@ -119,7 +124,7 @@ static void replay_clock(FILE *in) {
     while (next_header(in, record, sizeof record)) {
         struct kind *kind = kind_of(clock_kinds, CLOCK_KINDS, byte_at(record, 0));
         replay_one_clock(record);
-        end_record(kind, true);
+        end_record(kind);
     }
 }
 

@@ -1,6 +1,6 @@
 /*
- * The file `sketches`: calls on two sketches, each of which goes on from where the last call on it left it. The edge has all of
- * them, but for two kinds of records that are no calls: these write to the sketch or its grid, which are the caller's.
+ * The file `sketches`: calls on two sketches, each of which goes on from where the last call on it left it. Two kinds of
+ * records are steps. After these too n, seen or now, the state and the grid must be the record's.
  */
 #ifndef REPLAY_SKETCHES_H
 #define REPLAY_SKETCHES_H
@@ -13,16 +13,16 @@ enum {
 };
 
 static struct kind sketch_kinds[SKETCH_KINDS] = {
-    [MAKE] = {"with_dimensions", 0, 0},
-    [SET_CLOCK] = {"seen or now and the state set", 0, 0},
-    [UPDATE] = {"update", 0, 0},
-    [UPDATE_AT] = {"update_at", 0, 0},
-    [ADVANCE_TO] = {"advance_to", 0, 0},
-    [ESTIMATE] = {"estimate", 0, 0},
-    [ESTIMATE_WITH] = {"estimate_with", 0, 0},
-    [MERGE] = {"merge", 0, 0},
-    [MAX_ZOOM] = {"max_zoom", 0, 0},
-    [SET_GRID] = {"grid set", 0, 0},
+    [MAKE] = {.name = "with_dimensions"},
+    [SET_CLOCK] = {.name = "seen or now and the state set", .step = true},
+    [UPDATE] = {.name = "update"},
+    [UPDATE_AT] = {.name = "update_at"},
+    [ADVANCE_TO] = {.name = "advance_to"},
+    [ESTIMATE] = {.name = "estimate"},
+    [ESTIMATE_WITH] = {.name = "estimate_with"},
+    [MERGE] = {.name = "merge"},
+    [MAX_ZOOM] = {.name = "max_zoom"},
+    [SET_GRID] = {.name = "grid set", .step = true},
 };
 
 /* A sketch and its grid, in memory of just its size. */
@@ -69,14 +69,6 @@ static uint64_t digest(const struct slot *slot) {
         sum = (sum * 257 + slot->grid[i] + 1) % UINT64_C(36028797018963913);
     }
     return sum;
-}
-
-/* The sub-window reached, by the header's words. */
-static uint64_t sub_window(const microscope_sketch *sketch) {
-    if (sketch->kind == MICROSCOPE_ITEMS) {
-        return sketch->reading / sketch->length;
-    }
-    return sketch->reading < sketch->epoch ? 0 : (sketch->reading - sketch->epoch) / sketch->length;
 }
 
 /* Document 01's number, and the draws, of the calls that one record has. */
@@ -215,7 +207,7 @@ static void replay_sketches(FILE *in) {
         struct kind *kind = kind_of(sketch_kinds, SKETCH_KINDS, byte_at(header, 0));
         struct call call = read_call(in, header);
         replay_one_sketch(&call);
-        end_record(kind, byte_at(header, 0) != SET_CLOCK && byte_at(header, 0) != SET_GRID);
+        end_record(kind);
         free(call.key);
         free(call.shown);
     }
