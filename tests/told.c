@@ -1,7 +1,8 @@
 /*
  * What a refused call tells is 0, but for the index of an unsound cell, whatever stood there before; and it tells no more than
- * that, and leaves all else as it was. Every call is refused here, most of them by 14 too. told.out has what this must print.
- * tests/pairs.c tries the same over many more refusals, but not of calls on one cell.
+ * that, and leaves all else as it was. Every call is refused here, most of them by 14 too, but for those that only draw, which
+ * tests/draws.c has. told.out has what this must print. tests/pairs.c tries the same over many more refusals, but not of calls
+ * on one cell.
  */
 #include "tests.h"
 
@@ -34,6 +35,7 @@ static struct told {
     microscope_value value;
     microscope_found found;
     microscope_asked asked;
+    microscope_shape shape;
     uint64_t number;
     double pixel;
 } told;
@@ -102,6 +104,9 @@ static uint64_t save(void) {
 }
 static uint64_t load(void) {
     return microscope_load(&lent.sketch, &lent.watch, lent.grid, GRID, lent.store, STORE, &told.number);
+}
+static uint64_t store_shape(void) {
+    return microscope_store_shape(lent.store, STORE, &told.shape);
 }
 static uint64_t set_codes(void) {
     return microscope_set_codes(&lent.sketch, &lent.watch, lent.key, 1, &lent.state, 1, lent.columns, lent.limits);
@@ -175,6 +180,7 @@ static const struct refusal {
     {"store_length", length_of_store, without_state, PART(number), NOTHING, 5, 0},
     {"save", save, without_state, PART(number), NOTHING, 5, 0},
     {"load", load, as_it_is, PART(number), NOTHING, 17, 0},
+    {"store_shape", store_shape, as_it_is, PART(shape), NOTHING, 17, 0},
     {"set_codes", set_codes, without_state, NOTHING, NOTHING, 5, 0},
     {"ask", ask, without_state, PART(asked), NOTHING, 5, 0},
     {"depth", depth_of_t_0, as_it_is, PART(number), NOTHING, 1, 0},

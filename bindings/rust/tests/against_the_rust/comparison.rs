@@ -15,6 +15,7 @@ mod code_values;
 mod codes;
 mod damage;
 mod directed;
+mod draws;
 mod held;
 mod hits;
 mod junk;
@@ -110,11 +111,12 @@ fn story(dice: &mut Dice) -> Outcome {
     if code_calls::askings() < score::calls() / CALLS_AN_ASKING {
         return code_calls::counted(code_story(dice));
     }
-    match dice.below(24) {
+    match dice.below(26) {
         0..12 => stories::story(dice),
         12..15 => cells::story(dice),
         15..18 => random_calls::story(dice),
         18..20 => damage::story(dice),
+        20..22 => draws::story(dice),
         _ => band::story(dice),
     }
 }
@@ -129,7 +131,7 @@ fn code_story(dice: &mut Dice) -> Outcome {
 fn compare(run: &Run) -> Score {
     let mut score = Score::default();
     let directed = directed::ALL.into_iter().chain(refusals::ALL);
-    for (name, story) in directed.chain(band::ALL).chain(pairs::ALL) {
+    for (name, story) in directed.chain(draws::ALL).chain(band::ALL).chain(pairs::ALL) {
         score.count(name, story());
     }
     for (name, story) in code_causes::ALL.into_iter().chain(code_directed::ALL) {

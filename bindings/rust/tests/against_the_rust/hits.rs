@@ -13,7 +13,7 @@ thread_local! {
     static HITS: RefCell<BTreeMap<&'static str, BTreeMap<Pair, u64>>> = const { RefCell::new(BTreeMap::new()) };
 }
 
-pub const CALLS: [&str; 17] = [
+pub const CALLS: [&str; 18] = [
     "with_dimensions",
     "update",
     "update_at",
@@ -31,6 +31,7 @@ pub const CALLS: [&str; 17] = [
     "set_codes",
     "ask",
     "store_shape",
+    "unbiased_div_u64",
 ];
 
 /// Two causes of a call that cannot hold at once: an advance on a clock of items crosses nothing, and an advance that

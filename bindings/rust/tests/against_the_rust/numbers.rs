@@ -200,6 +200,14 @@ pub fn save(s: &Sketch, grid: &[u8], store: usize) -> Causes {
     then(whole_grid(s, grid), [(16, store != store_length(s))])
 }
 
+pub fn draw(state: u64) -> Causes {
+    vec![(5, state == 0)]
+}
+
+pub fn division(divisor: u64, state: u64) -> Causes {
+    then(draw(state), [(15, divisor == 0)])
+}
+
 /// A call on one cell that needs no random state.
 pub fn one_cell(t: u64, c: u64, cell: &[u8]) -> Causes {
     then(params(t, c), [(6, cell.len() != depth(t)), (14, unsound(t, c, cell))])
