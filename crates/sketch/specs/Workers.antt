@@ -1,4 +1,4 @@
--- What the workers rely on. The public calls have judged it; no public contract cites this file.
+-- What the workers rely on and leave. The public calls have judged it; no public contract cites this file.
 use Prim.Native.Nat.{ℕ, _*_, _^_, _≤_, _<_}
 use mathlib.Core.Path.{_≡_}
 use mathlib.Core.Bool.{true}
@@ -9,10 +9,12 @@ use Rattle.laws.specs.Parts.{part}
 use Rattle.refusal.specs.declared.Verdict.the-variants.{Accepted, Unsound}
 use Rattle.cell.specs.Cell.{depthOf, unitOf, soundOf}
 use Rattle.cell.specs.Workers.{Fit}
+use Rattle.clock.specs.declared.SubWindowClock.{SubWindowClock}
 use Rattle.clock.specs.Workers.{GoodLength}
 use Rattle.sketch.specs.declared.MicroCm.{MicroCm}
 use Rattle.sketch.specs.declared.Passed.{Passed}
-use Rattle.sketch.specs.Sketch.{gridBytes, cellOf, keyCells}
+use Rattle.sketch.specs.declared.SketchAnswer.{SketchAnswer}
+use Rattle.sketch.specs.Sketch.{gridBytes, cellOf, keyCells, taking}
 use Rattle.sketch.specs.Figures.{keyCell}
 use Rattle.sketch.specs.Refusals.{keyFits}
 use Rattle.sketch.specs.Audit.{firstUnsound}
@@ -44,6 +46,10 @@ rowUnit k g key row = unitOf (k .params .t) (k .params .c) (cellOf k g (keyCell 
 -- the grid that a pass leaves, with what it returned beside it
 abbrev pub passOf : List ℕ → Passed → Step
 passOf g r = made g (r .state) (r .draws)
+
+-- the answer of an accepted call: the sketch goes on with this clock, and with the random state that a pass returned
+abbrev pub wentOn : MicroCm → SubWindowClock → Passed → SketchAnswer
+wentOn k clock p = record { verdict = Accepted; sketch = taking k clock (p .state); draws = p .draws }
 
 -- so many cells that were judged, and room for them
 pub record SoundCells (t c count : ℕ) (g : List ℕ) : Type 0 where

@@ -19,10 +19,10 @@ use Rattle.sketch.specs.declared.SketchAnswer.{SketchAnswer}
 use Rattle.sketch.specs.Sketch.{World, cellsOf, crossEach, moved, updated, updatedAt, advanced}
 use Rattle.sketch.specs.Refusals.{sketchOutcome, sketchCall, answered, undrawn, world, itemVerdict, moveVerdict}
 use Rattle.sketch.specs.Refusals.{updateVerdict, updateCall, updateAtVerdict, updateAtCall, advanceVerdict, advanceCall}
-use Rattle.sketch.specs.Workers.{passOf}
+use Rattle.sketch.specs.Workers.{passOf, wentOn}
 use Rattle.sketch_counting_passes.specs.Workers.{crossCells, passed}
 use Rattle.sketch_counting.specs.declared.worker.Counted.{Counted}
-use Rattle.sketch_counting.specs.Workers.{SubWindows, windows, Moves, itemOf, itemCounted, wentOn, countedAnswer}
+use Rattle.sketch_counting.specs.Workers.{SubWindows, windows, Moves, itemOf, itemCounted, countedAnswer}
 use Rattle.sketch_counting.proofs.MoveLaws.{cross-none}
 use Rattle.sketch_counting.proofs.ItemLaws.{left, item-first, item-last}
 

@@ -13,9 +13,9 @@ use Rattle.clock.specs.Clock.{nOf}
 use Rattle.sketch.specs.declared.MicroCm.{MicroCm}
 use Rattle.sketch.specs.declared.Passed.{Passed}
 use Rattle.sketch.specs.declared.SketchAnswer.{SketchAnswer}
-use Rattle.sketch.specs.Sketch.{cellsOf, keyCells, allCells, insertEach, crossEach, taking}
+use Rattle.sketch.specs.Sketch.{cellsOf, keyCells, allCells, insertEach, crossEach}
 use Rattle.sketch.specs.Refusals.{keyFits, sketchVerdict, undrawn}
-use Rattle.sketch.specs.Workers.{Judged, SoundCells}
+use Rattle.sketch.specs.Workers.{Judged, SoundCells, wentOn}
 use Rattle.sketch_counting.specs.declared.worker.Counted.{Counted}
 
 -- the sub-windows of a call: before it, after it, and the item's own
@@ -70,9 +70,6 @@ itemCounted v k key at g = whenAccepted v (itemOf k key at g) (still g (k .round
 abbrev pub outcome : Verdict → Passed → Counted
 outcome v p = record { verdict = v; passed = p }
 
--- THE ANSWERS: of an accepted call, whose sketch goes on; and of an item, by its verdict
-abbrev pub wentOn : MicroCm → SubWindowClock → Passed → SketchAnswer
-wentOn k clock p = record { verdict = Accepted; sketch = taking k clock (p .state); draws = p .draws }
-
+-- THE ANSWER of an item, by its verdict
 abbrev pub countedAnswer : MicroCm → SubWindowClock → Counted → SketchAnswer
 countedAnswer k clock r = whenAccepted (r .verdict) (wentOn k clock (r .passed)) (undrawn (r .verdict) k)

@@ -55,7 +55,7 @@ pub fn advance_to(sketch: MicroCm, timestamp: u64, grid: &mut [u8]) -> SketchAns
     // would be compiled into that, which every update runs through twice.
     if new == old {
         let stayed = sketch_counting_passes::worker::passed(rounding.state, 0);
-        return answer::went_on(sketch, after, stayed);
+        return sketch_judging::answer::went_on(sketch, after, stayed);
     }
     let begun = new - old;
     let params = sketch.params;
@@ -69,5 +69,5 @@ pub fn advance_to(sketch: MicroCm, timestamp: u64, grid: &mut [u8]) -> SketchAns
         begun,
         rounding.state,
     );
-    answer::went_on(sketch, after, crossed)
+    sketch_judging::answer::went_on(sketch, after, crossed)
 }

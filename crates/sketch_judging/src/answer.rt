@@ -4,9 +4,11 @@ use clock::SubWindowClock;
 use refusal::Verdict;
 use rounding::Rounding;
 use sketch::MicroCm;
+use sketch::Passed;
 use sketch::SketchAnswer;
 ghost use mathlib.Core.Path.{_≡_};
 ghost use Rattle.sketch.specs.Refusals.{undrawn, noSketch};
+ghost use Rattle.sketch.specs.Workers.{wentOn};
 
 // No sketch: every call refuses this one.
 pub fn no_sketch() -> MicroCm
@@ -32,5 +34,25 @@ pub fn undrawn(verdict: Verdict, sketch: MicroCm) -> SketchAnswer
         verdict,
         sketch,
         draws: 0,
+    }
+}
+
+// The answer of an accepted call: the sketch goes on with this clock and with the random state that a pass returned.
+pub fn went_on(sketch: MicroCm, clock: SubWindowClock, passed: Passed) -> SketchAnswer
+    ensures { λ r. ⌜ r ≡ wentOn sketch clock passed ⌝ }
+{
+    let params = sketch.params;
+    SketchAnswer {
+        verdict: Verdict::Accepted,
+        sketch: MicroCm {
+            rows: sketch.rows,
+            cols: sketch.cols,
+            params,
+            clock,
+            rounding: Rounding {
+                state: passed.state,
+            },
+        },
+        draws: passed.draws,
     }
 }

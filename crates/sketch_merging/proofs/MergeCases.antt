@@ -1,6 +1,6 @@
 -- The two ways out of a merge: turned back, or the pass over all cells. Assumes nothing.
 use Prim.Native.Nat.{ℕ}
-use mathlib.Core.Path.{_≡_, refl, sym, ap, _∙_}
+use mathlib.Core.Path.{_≡_, refl, sym, _∙_}
 use mathlib.Core.Bool.{Bool, true, false, not, _&&_, true≢false}
 use mathlib.Core.List.{List}
 use native.Mathlib.Nat.{zero-add}
@@ -16,10 +16,11 @@ use Rattle.clock.specs.Clock.{nOf, sameFrame}
 use Rattle.clock.specs.Workers.{GoodLength}
 use Rattle.sketch.specs.declared.MicroCm.{MicroCm}
 use Rattle.sketch.specs.declared.Passed.{Passed}
-use Rattle.sketch.specs.Sketch.{World, cellsOf, allCells}
+use Rattle.sketch.specs.declared.SketchAnswer.{SketchAnswer}
+use Rattle.sketch.specs.Sketch.{cellsOf, allCells}
 use Rattle.sketch.specs.Merge.{mergeEach, merged}
-use Rattle.sketch.specs.Refusals.{refuseUnsound, sketchOutcome, world, sketchVerdict, lowerOf, sameShape, mergeVerdict, mergeCall, refusePair}
-use Rattle.sketch.specs.Workers.{Ready, Judged, SoundCells, passOf}
+use Rattle.sketch.specs.Refusals.{refuseUnsound, sketchOutcome, undrawn, world, sketchVerdict, lowerOf, sameShape, mergeVerdict, mergeCall, refusePair}
+use Rattle.sketch.specs.Workers.{Ready, Judged, SoundCells, passOf, wentOn}
 use Rattle.sketch.proofs.JudgedLaws.{sound-cells}
 use Rattle.sketch.proofs.ReadyLaws.{ready-of}
 use Rattle.sketch.proofs.SketchGates.{unsound-gate}
@@ -40,12 +41,11 @@ shape-parts k k' e =
     (eqb-true _ _ (p .0), eqb-true _ _ (p .1), eqb-true _ _ (p .2), eqb-true _ _ (p .3))
 
 module _ (k : MicroCm) (g : List ℕ) (k' : MicroCm) (g' : List ℕ) (v : Verdict) (ev : v ≡ mergeVerdict k g k' g') (ok : Bool) (asked : ok ≡ isAccepted v) where
-  pub merge-refused : not ok ≡ true → sketchOutcome (record { verdict = v; sketch = k; draws = 0 }) g ≡ mergeCall k g k' g'
+  pub merge-refused : (y : SketchAnswer) → not ok ≡ true → y ≡ undrawn v k → sketchOutcome y g ≡ mergeCall k g k' g'
   unfolding mergeCall
-  merge-refused h =
-      rw (← ev)
-      (ap (λ (w : World). sketchOutcome (record { verdict = v; sketch = w .sketch; draws = w .draws }) (w .grid))
-      (sym (refused-leaves v (merged g' (world k g)) (world k g) (turned-back v ok asked h))))
+  merge-refused y h ey =
+      let left-as-found = refused-leaves v (merged g' (world k g)) (world k g) (turned-back v ok asked h) in
+      rw (ey, ← ev, left-as-found) refl
 
   module _ (yes : not ok ≡ false) where
     accepted : v ≡ Accepted
@@ -84,14 +84,9 @@ module _ (k : MicroCm) (g : List ℕ) (k' : MicroCm) (g' : List ℕ) (v : Verdic
         let c = alike .3 in
         rw (rows, cols, t, c) (sound-cells k' g' (ready-of k' g' (either .1)) (sounded .1))
 
-    pub merge-done : (n : ℕ) (r : Passed) (l : List ℕ) → n ≡ nOf (k .clock) → passOf l r ≡ mergeEach k n g' g (k .rounding .state)
-        → sketchOutcome
-        (record {
-          verdict = v;
-          sketch = record { rows = k .rows; cols = k .cols; params = k .params; clock = k .clock; rounding = record { state = r .state } };
-          draws = r .draws;
-        }) l ≡ mergeCall k g k' g'
+    pub merge-done : (n : ℕ) (p : Passed) (l : List ℕ) (y : SketchAnswer) → n ≡ nOf (k .clock) → passOf l p ≡ mergeEach k n g' g (k .rounding .state)
+        → y ≡ wentOn k (k .clock) p → sketchOutcome y l ≡ mergeCall k g k' g'
     unfolding mergeCall
-    merge-done n r l en e =
-        let e' : mergeEach k (nOf (k .clock)) g' g (k .rounding .state) ≡ passOf l r = rw (← en) (sym e) in
-        rw (← ev, accepted, e', zero-add) refl
+    merge-done n p l y en e ey =
+        let e' : mergeEach k (nOf (k .clock)) g' g (k .rounding .state) ≡ passOf l p = rw (← en) (sym e) in
+        rw (ey, ← ev, accepted, e', zero-add) refl

@@ -2,9 +2,9 @@
 pub mod judge;
 pub mod pass;
 
-use rounding::Rounding;
 use sketch::MicroCm;
 use sketch::SketchAnswer;
+use sketch_judging::answer;
 ghost use mathlib.Core.Path.{_≡_};
 ghost use Rattle.sketch.specs.Refusals.{sketchOutcome, mergeCall};
 
@@ -15,28 +15,11 @@ pub fn merge(sketch: MicroCm, grid: &mut [u8], other: MicroCm, other_grid: &[u8]
 {
     let verdict = judge::merge(sketch, &grid[..], other, other_grid);
     if !verdict.accepted() {
-        return SketchAnswer {
-            verdict,
-            sketch,
-            draws: 0,
-        };
+        return answer::undrawn(verdict, sketch);
     }
-    let params = sketch.params;
     let clock = sketch.clock;
     let rounding = sketch.rounding;
     let n = clock_steps::worker::sub_window(clock);
     let passed = pass::merge_each(sketch, grid, other_grid, n, rounding.state);
-    SketchAnswer {
-        verdict,
-        sketch: MicroCm {
-            rows: sketch.rows,
-            cols: sketch.cols,
-            params,
-            clock,
-            rounding: Rounding {
-                state: passed.state,
-            },
-        },
-        draws: passed.draws,
-    }
+    answer::went_on(sketch, clock, passed)
 }

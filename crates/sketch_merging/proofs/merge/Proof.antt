@@ -10,6 +10,9 @@ merge-requires c κs = search needs
 accepted-requires : tie.Need-accepted-requires
 accepted-requires c κs = search needs
 
+undrawn-requires : tie.Need-undrawn-requires
+undrawn-requires c κs = search needs
+
 same-length : tie.Need-same-length
 same-length c = search needs
 
@@ -21,6 +24,9 @@ sub-window-requires c κs = search (merge-length, needs)
 
 merge-each-requires : tie.Need-merge-each-requires
 merge-each-requires c κs = ((search (merge-ready, needs), search (merge-judged, needs)), search (merge-other, needs))
+
+went-on-requires : tie.Need-went-on-requires
+went-on-requires c κs = search needs
 
 same-length-2 : tie.Need-same-length-2
 same-length-2 c = search needs
@@ -34,9 +40,11 @@ merge-spec =
     (tie.spec
     merge-requires
     accepted-requires
+    undrawn-requires
     same-length
     returns
     sub-window-requires
     merge-each-requires
+    went-on-requires
     same-length-2
     returns-2)
