@@ -1,17 +1,17 @@
 // A line: which command it is, whether it has the words and the sketch that the command needs, and the command.
 use crate::asking;
-use crate::cases;
 use crate::files;
-use crate::fresh;
-use crate::items;
-use crate::merge;
-use crate::slots;
-use crate::slots::Shelf;
 use crate::watching;
-use bench_tool_answers::print;
-use bench_tool_answers::queries;
-use bench_tool_answers::usage;
-use bench_tool_answers::usage::Kind;
+use bench_tool_sketches::cases;
+use bench_tool_sketches::fresh;
+use bench_tool_sketches::items;
+use bench_tool_sketches::merge;
+use bench_tool_sketches::print;
+use bench_tool_sketches::queries;
+use bench_tool_sketches::slots;
+use bench_tool_sketches::slots::Shelf;
+use bench_tool_sketches::usage;
+use bench_tool_sketches::usage::Kind;
 use program_text::words;
 
 fn say(line: &[u8]) {

@@ -1,10 +1,10 @@
 // A sketch into a file and back, as a block store.
-use crate::fresh;
-use crate::slots;
-use crate::slots::Shelf;
-use crate::slots::Slot;
-use bench_tool_answers::print;
-use bench_tool_answers::verdicts;
+use bench_tool_sketches::fresh;
+use bench_tool_sketches::print;
+use bench_tool_sketches::slots;
+use bench_tool_sketches::slots::Shelf;
+use bench_tool_sketches::slots::Slot;
+use bench_tool_sketches::verdicts;
 use cell::MicroParams;
 use program_text::fields;
 use program_text::files;

@@ -1,7 +1,7 @@
 // The lines of standard input, one command each.
 use crate::commands;
-use crate::slots::Shelf;
-use bench_tool_answers::print;
+use bench_tool_sketches::print;
+use bench_tool_sketches::slots::Shelf;
 use program_text::lines;
 use program_text::lines::Lines;
 use program_text::lines::Seen;

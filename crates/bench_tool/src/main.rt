@@ -1,17 +1,11 @@
 // The bench tool: commands on standard input, a line each, and an answer to each on standard output. docs/TOOL.md has the
 // commands; the file `stdin` beside this folder is a tour of them.
 //
-// It holds up to four sketches, a to d, and does nothing to them but by the public calls of the crates below it.
+// It holds up to four sketches, a to d, and does nothing to them but by the public calls of the core.
 mod asking;
-mod cases;
 mod commands;
 mod files;
-mod fresh;
 mod input;
-mod items;
-mod kept;
-mod merge;
-mod slots;
 mod watching;
 
 fn main() {

@@ -2,8 +2,8 @@
 use borrow.Author.Needs.{needs}
 use mathlib.Core.Path.{_≡_}
 use lib.ListN.{length}
-use Rattle.bench_tool.proofs.items.repeated.Statement.{statement}
-use Rattle.bench_tool.proofs.items.repeated.Tie as tie
+use Rattle.bench_tool_sketches.proofs.items.repeated.Statement.{statement}
+use Rattle.bench_tool_sketches.proofs.items.repeated.Tie as tie
 
 abbrev Inv-loop : tie.InvT-loop
 Inv-loop work times key grid₀ run₀ left₀ grid run left = length grid ≡ length grid₀

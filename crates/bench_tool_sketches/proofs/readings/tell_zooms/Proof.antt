@@ -2,8 +2,8 @@
 use borrow.Author.Needs.{needs}
 use Prim.Native.Nat.{_≤_, _-_}
 use lib.ListN.{length}
-use Rattle.bench_tool_answers.proofs.readings.tell_zooms.Statement.{statement}
-use Rattle.bench_tool_answers.proofs.readings.tell_zooms.Tie as tie
+use Rattle.bench_tool_sketches.proofs.readings.tell_zooms.Statement.{statement}
+use Rattle.bench_tool_sketches.proofs.readings.tell_zooms.Tie as tie
 
 abbrev Inv-loop : tie.InvT-loop
 Inv-loop sketch grid key row₀ row = row ≤ length key

@@ -1,7 +1,7 @@
 -- `unit` ends: each turn leaves fewer factors.
 use borrow.Author.Needs.{needs}
-use Rattle.bench_tool_answers.proofs.pictures.unit.Statement.{statement}
-use Rattle.bench_tool_answers.proofs.pictures.unit.Tie as tie
+use Rattle.bench_tool_sketches.proofs.pictures.unit.Statement.{statement}
+use Rattle.bench_tool_sketches.proofs.pictures.unit.Tie as tie
 
 abbrev Inv-loop : tie.InvT-loop
 Inv-loop c zoom power₀ left₀ power left = Unit {0}

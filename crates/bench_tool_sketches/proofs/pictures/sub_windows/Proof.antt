@@ -1,8 +1,8 @@
 -- `sub_windows` ends: no window has more than t sub-windows behind the present one.
 use borrow.Author.Needs.{needs}
 use Prim.Native.Nat.{_-_}
-use Rattle.bench_tool_answers.proofs.pictures.sub_windows.Statement.{statement}
-use Rattle.bench_tool_answers.proofs.pictures.sub_windows.Tie as tie
+use Rattle.bench_tool_sketches.proofs.pictures.sub_windows.Statement.{statement}
+use Rattle.bench_tool_sketches.proofs.pictures.sub_windows.Tie as tie
 
 abbrev Inv-loop : tie.InvT-loop
 Inv-loop cell params n unit back₀ at₀ back at = Unit {0}

@@ -1,7 +1,7 @@
 -- `bar` ends: each turn leaves fewer marks.
 use borrow.Author.Needs.{needs}
-use Rattle.bench_tool_answers.proofs.pictures.bar.Statement.{statement}
-use Rattle.bench_tool_answers.proofs.pictures.bar.Tie as tie
+use Rattle.bench_tool_sketches.proofs.pictures.bar.Statement.{statement}
+use Rattle.bench_tool_sketches.proofs.pictures.bar.Tie as tie
 
 abbrev Inv-loop : tie.InvT-loop
 Inv-loop pixel left₀ t4 t5 left = Unit {0}

@@ -1,7 +1,7 @@
 -- `highest` ends: each turn leaves fewer columns.
 use borrow.Author.Needs.{needs}
-use Rattle.bench_tool_answers.proofs.pictures.highest.Statement.{statement}
-use Rattle.bench_tool_answers.proofs.pictures.highest.Tie as tie
+use Rattle.bench_tool_sketches.proofs.pictures.highest.Statement.{statement}
+use Rattle.bench_tool_sketches.proofs.pictures.highest.Tie as tie
 
 abbrev Inv-loop : tie.InvT-loop
 Inv-loop sketch row from count grid zoom₀ col₀ left₀ zoom col left = Unit {0}

@@ -1,7 +1,7 @@
 -- `marks` ends: each turn leaves fewer marks to make.
 use borrow.Author.Needs.{needs}
-use Rattle.bench_tool_answers.proofs.pictures.marks.Statement.{statement}
-use Rattle.bench_tool_answers.proofs.pictures.marks.Tie as tie
+use Rattle.bench_tool_sketches.proofs.pictures.marks.Statement.{statement}
+use Rattle.bench_tool_sketches.proofs.pictures.marks.Tie as tie
 
 abbrev Inv-loop : tie.InvT-loop
 Inv-loop sketch row group grid from₀ left₀ from left = Unit {0}

@@ -1,8 +1,8 @@
 -- `map_rows` ends with the last row.
 use borrow.Author.Needs.{needs}
 use Prim.Native.Nat.{_-_}
-use Rattle.bench_tool_answers.proofs.pictures.map_rows.Statement.{statement}
-use Rattle.bench_tool_answers.proofs.pictures.map_rows.Tie as tie
+use Rattle.bench_tool_sketches.proofs.pictures.map_rows.Statement.{statement}
+use Rattle.bench_tool_sketches.proofs.pictures.map_rows.Tie as tie
 
 abbrev Inv-loop : tie.InvT-loop
 Inv-loop sketch group grid row₀ row = Unit {0}

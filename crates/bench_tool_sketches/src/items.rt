@@ -1,11 +1,11 @@
 // The calls that count: items, and time.
+use crate::print;
 use crate::slots;
 use crate::slots::Shelf;
 use crate::slots::Slot;
-use bench_tool_answers::print;
-use bench_tool_answers::usage;
-use bench_tool_answers::usage::Kind;
-use bench_tool_answers::verdicts;
+use crate::usage;
+use crate::usage::Kind;
+use crate::verdicts;
 use program_text::columns;
 use program_text::numbers;
 use program_text::numbers::Found;

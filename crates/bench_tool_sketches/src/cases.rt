@@ -1,9 +1,9 @@
 // What sets up a bench case. It writes what no call would, and so can make a sketch unsound.
+use crate::print;
 use crate::slots;
 use crate::slots::Shelf;
-use bench_tool_answers::print;
-use bench_tool_answers::usage;
-use bench_tool_answers::usage::Kind;
+use crate::usage;
+use crate::usage::Kind;
 use clock::SubWindowClock;
 use program_text::numbers;
 use program_text::numbers::Found;
