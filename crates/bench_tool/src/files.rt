@@ -23,13 +23,13 @@ fn failed(what: &[u8], name: &[u8]) {
 
 fn save_in(room: &mut [u8], length: usize, sketch: MicroCm, grid: &[u8]) -> Verdict {
     if room.len() < length {
-        return store::save(room, sketch, grid);
+        return store_calls::save(room, sketch, grid);
     }
-    store::save(&mut room[0..length], sketch, grid)
+    store_calls::save(&mut room[0..length], sketch, grid)
 }
 
 fn save_sketch(name: &[u8], room: &mut [u8], sketch: MicroCm, grid: &[u8]) {
-    let answer = store::store_length(sketch);
+    let answer = store_calls::store_length(sketch);
     let length = answer.length;
     let verdict = save_in(room, length, sketch, grid);
     if !verdict.accepted() {

@@ -9,7 +9,7 @@ pub extern "C" fn microscope_store_length(sketch: &[u64; 9], length: &mut u64) -
     ensures { λ r. ⌜ valued r (now (length .exit)) ≡ storeLengthTold (now (sketch .entry)) ⌝ }
 {
     let core = edge_values::sketch(sketch);
-    let answer = store::store_length(core);
+    let answer = store_calls::store_length(core);
     *length = answer.length as u64;
     let verdict = answer.verdict;
     edge_values::number(verdict)
@@ -27,7 +27,7 @@ pub extern "C" fn microscope_save(
         ≡ savedAs (now (sketch .entry)) (now (grid .entry)) (now (store .entry)) ⌝ }
 {
     let core = edge_values::sketch(sketch);
-    let verdict = store::save(store, core, grid);
+    let verdict = store_calls::save(store, core, grid);
     edge_answers::indexed(index, verdict)
 }
 

@@ -58,7 +58,7 @@ impl Service {
 pub fn load(grid: &mut [u8], store: &[u8]) -> ServiceAnswer
     ensures { λ r. ⌜ serviceOutcome r (now (grid .exit)) ≡ loadCall (now (grid .entry)) (now (store .entry)) ⌝ }
 {
-    let answer = store::load(grid, store);
+    let answer = store_calls::load(grid, store);
     let verdict = answer.verdict;
     let sketch = answer.sketch;
     without_codes(verdict, sketch)

@@ -3,7 +3,5 @@ pub mod SettingsLaws
 pub mod StoreLaws
 pub mod LoadLaws
 pub mod Theorems
-pub mod JudgeWork
-pub mod SaveWork
 pub mod LoadWork
 pub mod CauseTheorems

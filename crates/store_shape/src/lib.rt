@@ -2,7 +2,7 @@
 // judged as a load judges them; no cell is.
 use refusal::Verdict;
 use sketch::MicroCm;
-use store::judge;
+use store_judging::judge;
 use store_header::Header;
 use store_header::fields;
 ghost use mathlib.Core.Path.{_≡_};

@@ -1,8 +1,8 @@
--- `store::judge::behind_header` meets its contract. The tests are those of the definition, in its order.
-use Rattle.store.proofs.JudgeWork.{length-refused, fill-refused, room-refused, cells-decide}
+-- `store_judging::judge::behind_header` meets its contract. The tests are those of the definition, in its order.
+use Rattle.store_judging.proofs.JudgeWork.{length-refused, fill-refused, room-refused, cells-decide}
 use borrow.Author.Needs.{needs}
-use Rattle.store.proofs.judge.behind_header.Statement.{statement}
-use Rattle.store.proofs.judge.behind_header.Tie as tie
+use Rattle.store_judging.proofs.judge.behind_header.Statement.{statement}
+use Rattle.store_judging.proofs.judge.behind_header.Tie as tie
 
 grid-bytes-requires : tie.Need-grid-bytes-requires
 grid-bytes-requires c κs = search needs

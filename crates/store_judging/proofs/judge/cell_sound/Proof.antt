@@ -1,8 +1,8 @@
--- `store::judge::cell_sound` meets its contract. The five bytes that are read are the fields of the cell that the store carries there.
-use Rattle.store.proofs.JudgeWork.{t-few, base-low, base-high, cell-read}
+-- `store_judging::judge::cell_sound` meets its contract. The five bytes that are read are the fields of the cell that the store carries there.
+use Rattle.store_judging.proofs.JudgeWork.{t-few, base-low, base-high, cell-read}
 use borrow.Author.Needs.{needs}
-use Rattle.store.proofs.judge.cell_sound.Statement.{statement}
-use Rattle.store.proofs.judge.cell_sound.Tie as tie
+use Rattle.store_judging.proofs.judge.cell_sound.Statement.{statement}
+use Rattle.store_judging.proofs.judge.cell_sound.Tie as tie
 
 slice-aggregate-copy-out : tie.Need-slice-aggregate-copy-out
 slice-aggregate-copy-out c = search needs

@@ -1,10 +1,10 @@
--- `store::judge::cells` meets its contract. What is left to judge decides, since all before it is sound (`Judging`); the measure is how many are left.
-use Rattle.store.proofs.JudgeWork.{cells-fit, t-few, Judging, judging-begin, judging-room, judging-found, judging-on, judging-end, next-index}
-use Rattle.store.proofs.JudgeWork.{next-place}
+-- `store_judging::judge::cells` meets its contract. What is left to judge decides, since all before it is sound (`Judging`); the measure is how many are left.
+use Rattle.store_judging.proofs.JudgeWork.{cells-fit, t-few, Judging, judging-begin, judging-room, judging-found, judging-on, judging-end, next-index}
+use Rattle.store_judging.proofs.JudgeWork.{next-place}
 use Prim.Native.Nat.{_-_}
 use borrow.Author.Needs.{needs}
-use Rattle.store.proofs.judge.cells.Statement.{statement}
-use Rattle.store.proofs.judge.cells.Tie as tie
+use Rattle.store_judging.proofs.judge.cells.Statement.{statement}
+use Rattle.store_judging.proofs.judge.cells.Tie as tie
 
 abbrev Inv-loop : tie.InvT-loop
 Inv-loop sketch store depth count index₀ at₀ index at = Judging sketch store count depth index at

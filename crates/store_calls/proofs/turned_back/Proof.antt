@@ -1,8 +1,8 @@
 -- `turned_back`: no sketch, beside the verdict. Assumes nothing.
 use mathlib.Core.Path.{refl, _∙_}
 use borrow.Author.Needs.{needs}
-use Rattle.store.proofs.turned_back.Statement.{statement}
-use Rattle.store.proofs.turned_back.Tie as tie
+use Rattle.store_calls.proofs.turned_back.Statement.{statement}
+use Rattle.store_calls.proofs.turned_back.Tie as tie
 
 no-sketch-requires : tie.Need-no-sketch-requires
 no-sketch-requires c κs = search needs

@@ -1,8 +1,8 @@
--- `store::write` meets its contract. The header's block, and the blocks behind it, make the store.
-use Rattle.store.proofs.SaveWork.{store-written}
+-- `store_calls::write` meets its contract. The header's block, and the blocks behind it, make the store.
+use Rattle.store_calls.proofs.SaveWork.{store-written}
 use borrow.Author.Needs.{needs}
-use Rattle.store.proofs.write.Statement.{statement}
-use Rattle.store.proofs.write.Tie as tie
+use Rattle.store_calls.proofs.write.Statement.{statement}
+use Rattle.store_calls.proofs.write.Tie as tie
 
 slice-aggregate-write-header : tie.Need-slice-aggregate-write-header
 slice-aggregate-write-header c = search needs

@@ -1,8 +1,8 @@
--- `store::load` meets its contract. Each way out is what the definition gives there; all is judged before `copy_out`.
+-- `store_calls::load` meets its contract. Each way out is what the definition gives there; all is judged before `copy_out`.
 use Rattle.store.proofs.LoadWork.{load-damaged, load-long, load-payload, load-header, load-good, load-refused, load-room, load-done}
 use borrow.Author.Needs.{needs}
-use Rattle.store.proofs.load.Statement.{statement}
-use Rattle.store.proofs.load.Tie as tie
+use Rattle.store_calls.proofs.load.Statement.{statement}
+use Rattle.store_calls.proofs.load.Tie as tie
 
 whole-requires : tie.Need-whole-requires
 whole-requires c κs = search needs

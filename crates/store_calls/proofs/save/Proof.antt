@@ -1,8 +1,8 @@
--- `store::save` meets its contract. Each way out is what the definition gives there; all is judged before `write`.
-use Rattle.store.proofs.SaveWork.{save-refused, save-ready, save-unsound, save-good, save-length, save-exact, save-room, save-done}
+-- `store_calls::save` meets its contract. Each way out is what the definition gives there; all is judged before `write`.
+use Rattle.store_calls.proofs.SaveWork.{save-refused, save-ready, save-unsound, save-good, save-length, save-exact, save-room, save-done}
 use borrow.Author.Needs.{needs}
-use Rattle.store.proofs.save.Statement.{statement}
-use Rattle.store.proofs.save.Tie as tie
+use Rattle.store_calls.proofs.save.Statement.{statement}
+use Rattle.store_calls.proofs.save.Tie as tie
 
 sketch-requires : tie.Need-sketch-requires
 sketch-requires c κs = search needs

@@ -1,8 +1,8 @@
--- `store::judge::grid_bytes` meets its contract. Judged settings have a product that fits.
-use Rattle.store.proofs.JudgeWork.{cells-fit, t-few, bytes-fit, bytes-are}
+-- `store_judging::judge::grid_bytes` meets its contract. Judged settings have a product that fits.
+use Rattle.store_judging.proofs.JudgeWork.{cells-fit, t-few, bytes-fit, bytes-are}
 use borrow.Author.Needs.{needs}
-use Rattle.store.proofs.judge.grid_bytes.Statement.{statement}
-use Rattle.store.proofs.judge.grid_bytes.Tie as tie
+use Rattle.store_judging.proofs.judge.grid_bytes.Statement.{statement}
+use Rattle.store_judging.proofs.judge.grid_bytes.Tie as tie
 
 mul-result : tie.Need-mul-result
 mul-result c = record { fits = search (cells-fit, needs) }

@@ -1,8 +1,8 @@
--- `store::judge::whole` meets its contract. The tests are those of the definition, in its order.
-use Rattle.store.proofs.JudgeWork.{store-empty, store-cut, store-whole, store-damaged}
+-- `store_judging::judge::whole` meets its contract. The tests are those of the definition, in its order.
+use Rattle.store_judging.proofs.JudgeWork.{store-empty, store-cut, store-whole, store-damaged}
 use borrow.Author.Needs.{needs}
-use Rattle.store.proofs.judge.whole.Statement.{statement}
-use Rattle.store.proofs.judge.whole.Tie as tie
+use Rattle.store_judging.proofs.judge.whole.Statement.{statement}
+use Rattle.store_judging.proofs.judge.whole.Tie as tie
 
 returns : tie.Need-returns
 returns c = search (store-empty, needs)

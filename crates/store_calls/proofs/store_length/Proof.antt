@@ -1,8 +1,8 @@
--- `store::store_length` meets its contract. The length is that of the grid that judged settings have.
-use Rattle.store.proofs.SaveWork.{length-refused, length-good, length-told}
+-- `store_calls::store_length` meets its contract. The length is that of the grid that judged settings have.
+use Rattle.store_calls.proofs.SaveWork.{length-refused, length-good, length-told}
 use borrow.Author.Needs.{needs}
-use Rattle.store.proofs.store_length.Statement.{statement}
-use Rattle.store.proofs.store_length.Tie as tie
+use Rattle.store_calls.proofs.store_length.Statement.{statement}
+use Rattle.store_calls.proofs.store_length.Tie as tie
 
 numbers-requires : tie.Need-numbers-requires
 numbers-requires c κs = search needs
