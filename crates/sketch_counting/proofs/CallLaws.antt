@@ -21,10 +21,11 @@ use Rattle.sketch.specs.Refusals.{sketchOutcome, sketchCall, answered, undrawn,
 use Rattle.sketch.specs.Refusals.{updateVerdict, updateCall, updateAtVerdict, updateAtCall, advanceVerdict, advanceCall}
 use Rattle.sketch.specs.Workers.{passOf, wentOn}
 use Rattle.sketch_counting_passes.specs.Workers.{crossCells, passed}
-use Rattle.sketch_counting.specs.declared.worker.Counted.{Counted}
-use Rattle.sketch_counting.specs.Workers.{SubWindows, windows, Moves, itemOf, itemCounted, countedAnswer}
-use Rattle.sketch_counting.proofs.MoveLaws.{cross-none}
-use Rattle.sketch_counting.proofs.ItemLaws.{left, item-first, item-last}
+use Rattle.sketch_counting_items.specs.declared.worker.Counted.{Counted}
+use Rattle.sketch_counting_items.specs.Workers.{SubWindows, windows, Moves, itemOf, itemCounted}
+use Rattle.sketch_counting.specs.Workers.{countedAnswer}
+use Rattle.sketch_counting_items.proofs.MoveLaws.{cross-none}
+use Rattle.sketch_counting_items.proofs.ItemLaws.{left, item-first, item-last}
 
 -- THE SUB-WINDOWS of a call
 module _ (k : MicroCm) (clock : SubWindowClock) (old new : ℕ) (eo : old ≡ nOf (k .clock)) where

@@ -1,8 +1,8 @@
 // The answer of a call that counts an item. A refused one drew nothing, and its sketch is as it came.
-use crate::worker::Counted;
 use clock::SubWindowClock;
 use sketch::MicroCm;
 use sketch::SketchAnswer;
+use sketch_counting_items::worker::Counted;
 use sketch_judging::answer;
 ghost use mathlib.Core.Path.{_≡_};
 ghost use Rattle.sketch_counting.specs.Workers.{countedAnswer};

@@ -3,11 +3,11 @@
 // A call judges first and writes after: a refused one leaves the sketch and every byte of the grid as they came. A slice is
 // handed on as a part, `&key[..]`: whole, it would be copied through memory at each call.
 mod answer;
-mod judge;
-mod worker;
 
 use sketch::MicroCm;
 use sketch::SketchAnswer;
+use sketch_counting_items::judge;
+use sketch_counting_items::worker;
 ghost use mathlib.Core.Path.{_≡_};
 ghost use Rattle.sketch.specs.Refusals.{sketchOutcome, updateCall, updateAtCall, advanceCall};
 

@@ -2,9 +2,9 @@
 // judged as a load judges them; no cell is.
 use refusal::Verdict;
 use sketch::MicroCm;
-use store_judging::judge;
 use store_header::Header;
 use store_header::fields;
+use store_judging::judge;
 ghost use mathlib.Core.Path.{_≡_};
 ghost use Rattle.store_shape.specs.Shape.{shaped, shapeless, shapeCall};
 

@@ -1,7 +1,7 @@
 -- `advance_to`: as `update_at` without an item: the clock alone is moved.
 use Rattle.sketch_counting.proofs.CallLaws.{advance-refused, advance-stays, advance-crossed}
-use Rattle.sketch_counting.proofs.KeptLaws.{move-fit, move-sound}
-use Rattle.sketch_counting.proofs.VerdictCases.{crosses-told}
+use Rattle.sketch_counting_items.proofs.KeptLaws.{move-fit, move-sound}
+use Rattle.sketch_counting_items.proofs.VerdictCases.{crosses-told}
 use borrow.Author.Needs.{needs}
 use Rattle.sketch_counting.proofs.advance_to.Statement.{statement}
 use Rattle.sketch_counting.proofs.advance_to.Tie as tie

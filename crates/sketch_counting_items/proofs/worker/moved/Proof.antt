@@ -1,8 +1,8 @@
 -- `moved`: the cells cross where they are to, and were judged there. Assumes nothing.
-use Rattle.sketch_counting.proofs.MoveLaws.{moves-sound, moves-fit, moves-crossed, moves-none, none-drawn}
+use Rattle.sketch_counting_items.proofs.MoveLaws.{moves-sound, moves-fit, moves-crossed, moves-none, none-drawn}
 use borrow.Author.Needs.{needs}
-use Rattle.sketch_counting.proofs.worker.moved.Statement.{statement}
-use Rattle.sketch_counting.proofs.worker.moved.Tie as tie
+use Rattle.sketch_counting_items.proofs.worker.moved.Statement.{statement}
+use Rattle.sketch_counting_items.proofs.worker.moved.Tie as tie
 
 sub-begun : tie.Need-sub-begun
 sub-begun c = search needs

@@ -16,7 +16,7 @@ use Rattle.sketch.specs.declared.Passed.{Passed}
 use Rattle.sketch.specs.Sketch.{cellsOf, crossEach}
 use Rattle.sketch.specs.Workers.{SoundCells, passOf}
 use Rattle.sketch_counting_passes.specs.Workers.{crossCells, passed}
-use Rattle.sketch_counting.specs.Workers.{SoundIf, crossIf}
+use Rattle.sketch_counting_items.specs.Workers.{SoundIf, crossIf}
 
 each-none : (t c n size count j : ℕ) (g : List ℕ) (σ : ℕ) → eachOf (λ i b τ. crossOf t c n 0 b τ) size j count g σ ≡ still g σ
 unfolding eachOf crossOf

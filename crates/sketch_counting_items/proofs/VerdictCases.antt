@@ -20,7 +20,7 @@ use Rattle.sketch.specs.Audit.{firstUnsound}
 use Rattle.sketch.specs.Workers.{Ready}
 use Rattle.sketch.proofs.ReadyLaws.{ready-of, keyed-ready}
 use Rattle.sketch.proofs.SketchGates.{sketch-gate}
-use Rattle.sketch_counting.specs.Workers.{crossesTo}
+use Rattle.sketch_counting_items.specs.Workers.{crossesTo}
 
 -- 1 to 7
 abbrev pub keyed : MicroCm → List ℕ → List ℕ → Verdict → Verdict

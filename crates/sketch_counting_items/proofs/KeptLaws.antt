@@ -27,8 +27,8 @@ use Rattle.sketch.proofs.KeyLaws.{key-cells-below}
 use Rattle.sketch.proofs.WorldLaws.{Good, fits-key, none-unsound, insert-each-good, cross-each-good}
 use Rattle.sketch.proofs.ReadyLaws.{ready-of, alive-of, keyed-ready}
 use Rattle.sketch.proofs.SketchGates.{sketch-gate}
-use Rattle.sketch_counting.specs.Workers.{SubWindows, SoundIf, Moves, Countable, crossIf}
-use Rattle.sketch_counting.proofs.VerdictCases.{keyed, keyed-gate}
+use Rattle.sketch_counting_items.specs.Workers.{SubWindows, SoundIf, Moves, Countable, crossIf}
+use Rattle.sketch_counting_items.proofs.VerdictCases.{keyed, keyed-gate}
 
 good-of : (k : MicroCm) (g : List ℕ) → sketchVerdict k g ≡ Accepted → Judged k g (allCells k) → Good k g (k .rounding .state)
 good-of k g e w = record { whole = ready-of k g e .size-is; alive = alive-of k g e; sound = λ j l. judged-all k g j w l }

@@ -6,7 +6,7 @@ use sketch::MicroCm;
 ghost use mathlib.Core.Path.{_≡_};
 ghost use Rattle.refusal.specs.Refusals.{refuse};
 ghost use Rattle.sketch.specs.Refusals.{itemVerdict, moveVerdict};
-ghost use Rattle.sketch_counting.specs.Workers.{crossesTo};
+ghost use Rattle.sketch_counting_items.specs.Workers.{crossesTo};
 
 // An item for a sketch that takes the clock `after` by it; `number` is told between 7 and 14 where that
 // cause `holds`: as one verdict the two would go through memory.

@@ -1,10 +1,10 @@
 -- `count`: either way out is what `itemCounted` gives there.
-use Rattle.sketch_counting.proofs.ItemLaws.{count-told, count-refused, count-done}
-use Rattle.sketch_counting.proofs.KeptLaws.{item-countable}
-use Rattle.sketch_counting.proofs.VerdictCases.{crosses-told}
+use Rattle.sketch_counting_items.proofs.ItemLaws.{count-told, count-refused, count-done}
+use Rattle.sketch_counting_items.proofs.KeptLaws.{item-countable}
+use Rattle.sketch_counting_items.proofs.VerdictCases.{crosses-told}
 use borrow.Author.Needs.{needs}
-use Rattle.sketch_counting.proofs.worker.count.Statement.{statement}
-use Rattle.sketch_counting.proofs.worker.count.Tie as tie
+use Rattle.sketch_counting_items.proofs.worker.count.Statement.{statement}
+use Rattle.sketch_counting_items.proofs.worker.count.Tie as tie
 
 item-requires : tie.Need-item-requires
 item-requires c κs = search (crosses-told, needs)

@@ -1,8 +1,8 @@
 -- `item`: each way out is what the verdict comes to behind the causes that do not hold. Assumes nothing.
-use Rattle.sketch_counting.proofs.VerdictCases.{item-refused, item-ready, item-fits, item-between, item-all, item-key}
+use Rattle.sketch_counting_items.proofs.VerdictCases.{item-refused, item-ready, item-fits, item-between, item-all, item-key}
 use borrow.Author.Needs.{needs}
-use Rattle.sketch_counting.proofs.judge.item.Statement.{statement}
-use Rattle.sketch_counting.proofs.judge.item.Tie as tie
+use Rattle.sketch_counting_items.proofs.judge.item.Statement.{statement}
+use Rattle.sketch_counting_items.proofs.judge.item.Tie as tie
 
 keyed-requires : tie.Need-keyed-requires
 keyed-requires c κs = search needs

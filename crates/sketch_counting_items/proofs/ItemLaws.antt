@@ -18,9 +18,9 @@ use Rattle.sketch.specs.Sketch.{cellIndex, keyCells, insertAt, insertEach, cros
 use Rattle.sketch.specs.Refusals.{world}
 use Rattle.sketch.specs.Workers.{passOf}
 use Rattle.sketch_counting_passes.specs.Workers.{passed}
-use Rattle.sketch_counting.specs.declared.worker.Counted.{Counted}
-use Rattle.sketch_counting.specs.Workers.{SubWindows, windows, crossIf, itemOf, itemCounted, outcome}
-use Rattle.sketch_counting.proofs.MoveLaws.{cross-rose}
+use Rattle.sketch_counting_items.specs.declared.worker.Counted.{Counted}
+use Rattle.sketch_counting_items.specs.Workers.{SubWindows, windows, crossIf, itemOf, itemCounted, outcome}
+use Rattle.sketch_counting_items.proofs.MoveLaws.{cross-rose}
 
 -- THE STEPS of `in_order`, one after another
 module _ (k : MicroCm) (key g : List ℕ) (at : SubWindows) where

@@ -1,8 +1,8 @@
 -- `movement`: as for an item, without a key; and where n stays no cell is judged. Assumes nothing.
-use Rattle.sketch_counting.proofs.VerdictCases.{movement-refused, movement-ready, movement-between, movement-all, movement-none}
+use Rattle.sketch_counting_items.proofs.VerdictCases.{movement-refused, movement-ready, movement-between, movement-all, movement-none}
 use borrow.Author.Needs.{needs}
-use Rattle.sketch_counting.proofs.judge.movement.Statement.{statement}
-use Rattle.sketch_counting.proofs.judge.movement.Tie as tie
+use Rattle.sketch_counting_items.proofs.judge.movement.Statement.{statement}
+use Rattle.sketch_counting_items.proofs.judge.movement.Tie as tie
 
 sketch-requires : tie.Need-sketch-requires
 sketch-requires c κs = search needs

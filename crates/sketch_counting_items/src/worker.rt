@@ -12,7 +12,7 @@ ghost use Rattle.refusal.specs.Refusals.{refuse};
 ghost use Rattle.sketch.specs.Sketch.{cellsOf};
 ghost use Rattle.sketch.specs.Refusals.{itemVerdict};
 ghost use Rattle.sketch.specs.Workers.{passOf};
-ghost use Rattle.sketch_counting.specs.Workers.{SoundIf, Moves, Countable, windows, crossIf, itemOf, outcome, itemCounted};
+ghost use Rattle.sketch_counting_items.specs.Workers.{SoundIf, Moves, Countable, windows, crossIf, itemOf, outcome, itemCounted};
 
 // What an item did. The sketch is not in it: whole, it would be copied on the way.
 pub struct Counted {

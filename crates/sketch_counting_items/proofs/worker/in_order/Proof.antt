@@ -1,9 +1,9 @@
 -- `in_order`: what was judged still holds at each step, and the steps are those of `itemOf`.
-use Rattle.sketch_counting.proofs.ItemLaws.{order-done}
-use Rattle.sketch_counting.proofs.KeptLaws.{before-sound, between-readable, last-sound, few-draws, few-draws-more}
+use Rattle.sketch_counting_items.proofs.ItemLaws.{order-done}
+use Rattle.sketch_counting_items.proofs.KeptLaws.{before-sound, between-readable, last-sound, few-draws, few-draws-more}
 use borrow.Author.Needs.{needs}
-use Rattle.sketch_counting.proofs.worker.in_order.Statement.{statement}
-use Rattle.sketch_counting.proofs.worker.in_order.Tie as tie
+use Rattle.sketch_counting_items.proofs.worker.in_order.Statement.{statement}
+use Rattle.sketch_counting_items.proofs.worker.in_order.Tie as tie
 
 moved-requires : tie.Need-moved-requires
 moved-requires c κs = (search (before-sound, needs), search needs)

@@ -1,0 +1,4 @@
+pub mod VerdictCases
+pub mod MoveLaws
+pub mod ItemLaws
+pub mod KeptLaws
