@@ -16,3 +16,4 @@ pub mod SumsLaws
 pub mod CrossingLaws
 pub mod MergeLaws
 pub mod CauseTheorems
+pub mod NamedLaws

@@ -4,6 +4,7 @@ pub mod Crossing
 pub mod Merge
 pub mod Refusals
 pub mod Causes
+pub mod Named
 pub mod Limits
 pub mod BenchSheet
 pub mod Workers

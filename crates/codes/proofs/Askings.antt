@@ -18,9 +18,9 @@ use Rattle.codes.specs.Refusals.{AskOutcome, askOutcome, setVerdict, new
 use Rattle.codes.specs.Askings.{Call, setting, asking, Kept, noneKept, askedAt, after, run, lastSet, codesOf, reachedBy, wasReached, Listed, Askings}
 use Rattle.codes.proofs.OntoLaws.{onto-taken, onto-dropped, onto-length, onto-at}
 use Rattle.codes.proofs.NewlyLaws.{newly-few, newly-in, newly-ascending, newly-same}
-use Rattle.codes.proofs.VerdictLaws.{GoodAsk, ask-accepted, ask-unsound, kept-fit}
+use Rattle.codes.proofs.VerdictLaws.{GoodAsk, ask-accepted, kept-fit}
 use Rattle.codes.proofs.RunLaws.{Keeps, kept-code, asked-same, run-keeps}
-use Rattle.codes.proofs.WatchedLaws.{code-read, smallest-unsound}
+use Rattle.codes.proofs.WatchedLaws.{code-read}
 
 -- ACCEPTED
 module _ (columns limits : List ℕ) (long : length columns ≡ 8192) (long-limits : length limits ≡ 64) (before : List Call) (k : MicroCm) (g list : List ℕ) where
@@ -122,7 +122,4 @@ unfolding askCall
 askings = record {
   listed = λ columns limits long long-limits before k g list e. accepted-listed columns limits long long-limits before k g list e;
   left = λ s. record { set-refused = set-left s; ask-refused = ask-left s };
-  named = λ s long k g list j e.
-      let past = ask-unsound k (s .watch) (s .columns) g (length list) j e in
-      smallest-unsound s long k g (length list) (past .0) j (past .1);
 }

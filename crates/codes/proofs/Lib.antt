@@ -9,5 +9,6 @@ pub mod WatchedLaws
 pub mod RunLaws
 pub mod CauseTheorems
 pub mod Worked
+pub mod NamedLaws
 pub mod Askings
 pub mod AcceptanceLaws

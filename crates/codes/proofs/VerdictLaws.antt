@@ -1,20 +1,20 @@
--- What an accepted setting and an accepted asking say of their numbers: each cause, denied; a verdict of 14 denies those before it too. Assumes nothing.
+-- What an accepted setting and an asking whose cells are looked at say of their numbers: each cause, denied. Assumes nothing.
 use Prim.Native.Nat.{ℕ, _*_, _≤_, _<_, min}
-use mathlib.Core.Path.{_≡_, refl, sym, ap, _∙_}
-use mathlib.Core.Bool.{Bool, true, false, not, cond, _&&_, true≢false}
+use mathlib.Core.Path.{_≡_}
+use mathlib.Core.Bool.{true, not}
 use mathlib.Core.List.{List, [], _∷_, _++_}
 use native.Mathlib.Omega.{arith}
 use native.Mathlib.Nat.{min-eq-left}
 use lib.Dec.{ltb, eqb}
 use lib.ListN.{length, take}
-use borrow.Author.Tests.{ltb-false, eqb-true, ne-eqb, not-true, not-false}
+use borrow.Author.Tests.{ltb-false, eqb-true, ne-eqb, not-false}
 use Rattle.laws.proofs.ChoiceLaws.{both-hold}
 use Rattle.refusal.specs.declared.Verdict.{Verdict}
-use Rattle.refusal.specs.declared.Verdict.the-variants.{Accepted, Refused, Unsound}
-use Rattle.refusal.specs.Refusals.{isAccepted, refuse}
-use Rattle.refusal.specs.Causes.{Cause, told, holds, refuseBy, firstOf}
-use Rattle.refusal.proofs.VerdictLaws.{accepted-is, refuse-then, not-refused}
-use Rattle.refusal.proofs.GateLaws.{Gate, gate-chain, gate-passed, gate-open, gate-shut}
+use Rattle.refusal.specs.declared.Verdict.the-variants.{Accepted}
+use Rattle.refusal.specs.Refusals.{refuse}
+use Rattle.refusal.specs.Causes.{refuseBy, firstOf}
+use Rattle.refusal.proofs.VerdictLaws.{refuse-then, not-refused}
+use Rattle.refusal.proofs.GateLaws.{Gate, gate-chain, gate-passed}
 use Rattle.sketch.specs.declared.MicroCm.{MicroCm}
 use Rattle.sketch.specs.Refusals.{allBelow, refuseSketch, refuseUnsound, sketchVerdict}
 use Rattle.sketch.specs.Causes.{sketchCauses}
@@ -96,42 +96,7 @@ module _ (k : MicroCm) (w : Watch) (columns g : List ℕ) (room : ℕ) where
       let past = gate-passed asked asked-gate (refuseUnsound k g (watchedCells k columns (w .count)) Accepted) e in
       (asked-good (past .0), past .1)
 
--- only 14 names a cell
-abbrev namesCell : Verdict → Bool
-namesCell Accepted = false
-namesCell (Refused n) = false
-namesCell (Unsound j) = true
-
-unfoldable noneNames : List Cause → Bool
-noneNames [] = true
-noneNames (x ∷ xs) = not (namesCell (told x)) && noneNames xs
-
-first-names-none : (xs : List Cause) → noneNames xs ≡ true → namesCell (firstOf xs) ≡ false
-unfolding noneNames firstOf
-first-names-none [] e = refl
-first-names-none (x ∷ xs) e = by (holds x) (both-hold (not (namesCell (told x))) (noneNames xs) e) (first-names-none xs)
-  where
-    by : (h : Bool) → (not (namesCell (told x)) ≡ true) × (noneNames xs ≡ true) → (noneNames xs ≡ true → namesCell (firstOf xs) ≡ false)
-        → namesCell (cond h (told x) (firstOf xs)) ≡ false
-    by true parts later = not-true _ (parts .0)
-    by false parts later = later (parts .1)
-
-module _ (k : MicroCm) (w : Watch) (columns g : List ℕ) (room : ℕ) where
-  abbrev cells : Verdict
-  cells = refuseUnsound k g (watchedCells k columns (w .count)) Accepted
-
-  asked-names-none : namesCell (asked k w columns g room Accepted) ≡ false
-  unfolding noneNames firstOf
-  asked-names-none = first-names-none (sketchCauses k g ++ foreignCodes k w columns ∷ manyCodes (w .count) ∷ shortList (w .count) room ∷ []) refl
-
-  -- REFUSED BY 14
-  pub ask-unsound : (j : ℕ) → askVerdict k w columns g room ≡ Unsound j → GoodAsk k w columns g room × (cells ≡ Unsound j)
-  ask-unsound j e = by (isAccepted (asked k w columns g room Accepted)) refl
-    where
-      by : (a : Bool) → isAccepted (asked k w columns g room Accepted) ≡ a → GoodAsk k w columns g room × (cells ≡ Unsound j)
-      by true q =
-          let past : asked k w columns g room Accepted ≡ Accepted = accepted-is _ q in
-          (asked-good k w columns g room past, sym (gate-open (asked k w columns g room) (asked-gate k w columns g room) cells past) ∙ e)
-      by false q =
-          let shut = gate-shut (asked k w columns g room) (asked-gate k w columns g room) cells _ refl q in
-          absurd (true≢false (sym (ap namesCell (sym shut ∙ e)) ∙ asked-names-none))
+  -- PAST its first causes
+  pub ask-past : firstOf (sketchCauses k g ++ foreignCodes k w columns ∷ manyCodes (w .count) ∷ shortList (w .count) room ∷ []) ≡ Accepted → GoodAsk
+  unfolding firstOf
+  ask-past e = asked-good e

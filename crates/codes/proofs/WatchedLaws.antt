@@ -1,30 +1,34 @@
 -- Every cell of a code is one of those that an asking judges: so where it is accepted each code can be read, and 14 names the smallest that is
 -- unsound. Assumes nothing.
-use Prim.Native.Nat.{ℕ, _*_, _≤_, _<_}
-use mathlib.Core.Path.{_≡_, refl, _∙_}
-use mathlib.Core.Bool.{true}
+use Prim.Native.Nat.{ℕ, _+_, _*_, _≤_, _<_}
+use mathlib.Core.Path.{_≡_, refl, sym, _∙_}
+use mathlib.Core.Bool.{Bool, true, false, true≢false}
 use mathlib.Core.List.{List}
 use native.Mathlib.Omega.{arith}
 use native.Mathlib.Nat.{zero-add}
-use lib.Dec.{eqb}
+use lib.Dec.{ltb, eqb}
 use lib.ListN.{length}
+use borrow.Author.Tests.{ltb-true, ltb-false}
 use Rattle.laws.proofs.ChoiceLaws.{both-hold}
 use Rattle.refusal.specs.declared.Verdict.the-variants.{Accepted, Unsound}
 use Rattle.sketch.specs.declared.MicroCm.{MicroCm}
 use Rattle.sketch.specs.Sketch.{cellsOf, keyCells}
-use Rattle.sketch.specs.Figures.{keyCell}
 use Rattle.sketch.specs.Refusals.{allBelow, keyFits, refuseUnsound, readVerdict}
 use Rattle.sketch.specs.Workers.{Judged, Readable}
+use Rattle.sketch.specs.Acceptance.{soundAt}
+use Rattle.sketch.specs.Named.{SmallestUnsound}
+use Rattle.sketch.proofs.AuditLaws.{search-is}
+use Rattle.sketch.proofs.NamedLaws.{someBad, firstBad}
 use Rattle.sketch.proofs.AddressLaws.{product-le}
 use Rattle.sketch.proofs.KeyLaws.{KeyFrom, key-cells-below}
 use Rattle.sketch.proofs.ReadingLaws.{key-read}
 use Rattle.codes.specs.declared.Watch.{Watch}
 use Rattle.codes.specs.Codes.{codeIn, codeCells, watchedCells}
-use Rattle.codes.specs.Askings.{Kept, SmallestUnsound}
+use Rattle.codes.specs.Named.{CodeCell}
 use Rattle.codes.proofs.InLaws.{in-below}
 use Rattle.codes.proofs.VerdictLaws.{GoodAsk, kept-fit}
 use Rattle.codes.proofs.CodeLaws.{code-rows, code-fits}
-use Rattle.codes.proofs.CellLaws.{key-cell-in, key-cell-where, code-cell-in, code-cell-where, sound-judged, those-judged, those-named}
+use Rattle.codes.proofs.CellLaws.{key-cell-in, key-cell-where, code-cell-in, code-cell-where, sound-judged, those-judged, FirstOfThose, those-named}
 
 module _ (k : MicroCm) (w : Watch) (columns g : List ℕ) (room : ℕ) (good : GoodAsk k w columns g room) (long : length columns ≡ 8192) where
   pub codes-room : w .count * k .rows ≤ length columns
@@ -61,24 +65,40 @@ module _ (k : MicroCm) (w : Watch) (columns g : List ℕ) (room : ℕ) (good : G
     code-read = key-read k key g (good .good) fits (code-readable .judged)
 
 -- THE CELL THAT 14 NAMES
-module _ (s : Kept) (long : length (s .columns) ≡ 8192) (k : MicroCm) (g : List ℕ) (room : ℕ) (good : GoodAsk k (s .watch) (s .columns) g room) where
-  pub smallest-unsound : (j : ℕ) → refuseUnsound k g (watchedCells k (s .columns) (s .watch .count)) Accepted ≡ Unsound j → SmallestUnsound s k g j
-  smallest-unsound j e =
-      let count = s .watch .count in
-      let roomy = codes-room k (s .watch) (s .columns) g room good long in
-      let it = those-named k g (codeCells k (s .columns) count) (cellsOf k) 0 j e in
-      let of-code = code-cell-where k (s .columns) count j (it .listed) in
-      let in-row = key-cell-where k (codeIn (k .rows) (s .columns) (of-code .0)) 0 j (of-code .2) in
+module _ (k : MicroCm) (w : Watch) (columns g : List ℕ) (room : ℕ) (good : GoodAsk k w columns g room) (long : length columns ≡ 8192) where
+  abbrev cells : List ℕ
+  cells = watchedCells k columns (w .count)
+
+  pub codes-smallest : someBad k g cells ≡ true → SmallestUnsound (CodeCell k w columns) k g (firstBad k g cells)
+  codes-smallest e =
+      let roomy = codes-room k w columns g room good long in
+      let told : refuseUnsound k g cells Accepted ≡ Unsound (firstBad k g cells) = search-is Unsound Accepted k g cells ∙ rw e refl in
+      let it = those-named k g (codeCells k columns (w .count)) (cellsOf k) 0 (firstBad k g cells) told in
+      let of-code = code-cell-where k columns (w .count) (firstBad k g cells) (it .listed) in
+      let in-row = key-cell-where k (codeIn (k .rows) columns (of-code .0)) 0 (firstBad k g cells) (of-code .2) in
       record {
-        code = of-code .0;
-        row = in-row .0;
-        code-is = of-code .1;
-        row-is = omega (arith, in-row .1, code-rows k (s .columns) count roomy (of-code .0) (of-code .1));
-        cell-is = in-row .2 ∙ rw zero-add refl;
-        bad = it .bad;
-        smallest = λ i r h l b.
-            let key = codeIn (k .rows) (s .columns) i in
-            it .earlier (keyCell k key r) (omega arith) b
-            (code-cell-in k (s .columns) count i (keyCell k key r) h
-            (rw zero-add at (key-cell-in k key 0 r (omega (arith, code-rows k (s .columns) count roomy i h)))));
+        judged = record {
+          code = of-code .0;
+          watched = of-code .1;
+          cell = record {
+            row = in-row .0;
+            inside = omega (arith, in-row .1, code-rows k columns (w .count) roomy (of-code .0) (of-code .1));
+            is = in-row .2 ∙ rw zero-add refl;
+          };
+        };
+        unsound = it .bad;
+        smallest = λ i c bad. least i c bad it;
       }
+    where
+      least : (i : ℕ) → CodeCell k w columns i → soundAt k g i ≡ false
+          → FirstOfThose k g (codeCells k columns (w .count)) 0 (0 + cellsOf k) (firstBad k g cells) → firstBad k g cells ≤ i
+      least i c bad it = by (ltb i (firstBad k g cells)) refl
+        where
+          by : (x : Bool) → ltb i (firstBad k g cells) ≡ x → firstBad k g cells ≤ i
+          by true q =
+              let key = codeIn (k .rows) columns (c .code) in
+              let rows = code-rows k columns (w .count) (codes-room k w columns g room good long) (c .code) (c .watched) in
+              let mine = rw zero-add at (key-cell-in k key 0 (c .cell .row) (omega (arith, rows, c .cell .inside))) in
+              let listed = code-cell-in k columns (w .count) (c .code) i (c .watched) (rw (c .cell .is) mine) in
+              absurd (true≢false (sym (it .earlier i (omega arith) (ltb-true _ _ q) listed) ∙ bad))
+          by false q = ltb-false _ _ q

@@ -5,16 +5,14 @@
 -- No flag is looked at here: what an asking found before is gone back to, call by call.
 use Prim.Native.Nat.{ℕ, _≤_, _<_}
 use mathlib.Core.Path.{_≡_}
-use mathlib.Core.Bool.{Bool, true, false, not, _&&_}
+use mathlib.Core.Bool.{Bool, false, not, _&&_}
 use mathlib.Core.List.{List, [], _∷_}
 use lib.Dec.{ltb}
 use lib.ListN.{length, getD, take, drop}
-use Rattle.refusal.specs.declared.Verdict.the-variants.{Accepted, Unsound}
+use Rattle.refusal.specs.declared.Verdict.the-variants.{Accepted}
 use Rattle.refusal.specs.Refusals.{isAccepted, whenAccepted}
-use Rattle.cell.specs.Cell.{soundOf}
 use Rattle.sketch.specs.declared.MicroCm.{MicroCm}
-use Rattle.sketch.specs.Sketch.{cellOf}
-use Rattle.sketch.specs.Figures.{overOf, keyCell}
+use Rattle.sketch.specs.Figures.{overOf}
 use Rattle.sketch.specs.Refusals.{readCall}
 use Rattle.codes.specs.declared.Watch.{Watch}
 use Rattle.codes.specs.Codes.{noCodes, codeIn, reachedAt, isIn}
@@ -93,22 +91,9 @@ pub record Left (s : Kept) : Type 0 where
   pub ask-refused : (k : MicroCm) (g list : List ℕ) → isAccepted (askedAt s k g list .answer .verdict) ≡ false
       → (after (asking k g list) s ≡ s) × (askedAt s k g list .list ≡ list) × (askedAt s k g list .answer .listed ≡ 0)
 
--- THE CELL THAT 14 NAMES is unsound, one of a code's, and the smallest such in grid order
-pub record SmallestUnsound (s : Kept) (k : MicroCm) (g : List ℕ) (j : ℕ) : Type 0 where
-  pub code : ℕ
-  pub row : ℕ
-  pub code-is : code < s .watch .count
-  pub row-is : row < k .rows
-  pub cell-is : j ≡ keyCell k (codeIn (k .rows) (s .columns) code) row
-  pub bad : soundOf (k .params .t) (k .params .c) (cellOf k g j) ≡ false
-  pub smallest : (i r : ℕ) → i < s .watch .count → r < k .rows → keyCell k (codeIn (k .rows) (s .columns) i) r < j
-      → soundOf (k .params .t) (k .params .c) (cellOf k g (keyCell k (codeIn (k .rows) (s .columns) i) r)) ≡ true
-
 -- THE THEOREM: for every list of calls, from any memory of the sizes that are lent
 pub record Askings : Type 0 where
   pub listed : (columns limits : List ℕ) → length columns ≡ 8192 → length limits ≡ 64 → (before : List Call) (k : MicroCm) (g list : List ℕ)
       → askedAt (run (noneKept columns limits) before) k g list .answer .verdict ≡ Accepted
       → Listed (noneKept columns limits) before k g list (askedAt (run (noneKept columns limits) before) k g list)
   pub left : (s : Kept) → Left s
-  pub named : (s : Kept) → length (s .columns) ≡ 8192 → (k : MicroCm) (g list : List ℕ) (j : ℕ)
-      → askedAt s k g list .answer .verdict ≡ Unsound j → SmallestUnsound s k g j

@@ -3,4 +3,5 @@ pub mod Refusals
 pub mod Causes
 pub mod Acceptance
 pub mod Askings
+pub mod Named
 pub mod Examples

@@ -52,7 +52,7 @@ module _ (x : Cause) (xs : List Cause) where
   applies-later k e = rw (e, and-false (eqb (numberOf (told x)) k)) refl
 
   -- a number that applies is the first cause's or applies among the others
-  applies-where : (k : ℕ) → applies k (x ∷ xs) ≡ true → (P : Type 0) → (numberOf (told x) ≡ k → P) → (applies k xs ≡ true → P) → P
+  pub applies-where : (k : ℕ) → applies k (x ∷ xs) ≡ true → (P : Type 0) → (numberOf (told x) ≡ k → P) → (applies k xs ≡ true → P) → P
   unfolding applies
   applies-where k e P here later = by (eqb (numberOf (told x)) k) refl (holds x) e
     where
@@ -93,7 +93,7 @@ applies-refuses (x ∷ xs) k e = by (holds x) refl (applies-refuses xs k)
     by false q later = rw (first-fails x xs q) (later (sym (applies-later x xs k q) ∙ e))
 
 -- a rank, and the numbers behind it
-ranked-parts : (r n : ℕ) (ns : List ℕ) → rankedFrom r (n ∷ ns) ≡ true → (r ≤ rankOf n) × (rankedFrom (rankOf n) ns ≡ true)
+pub ranked-parts : (r n : ℕ) (ns : List ℕ) → rankedFrom r (n ∷ ns) ≡ true → (r ≤ rankOf n) × (rankedFrom (rankOf n) ns ≡ true)
 unfolding rankedFrom
 ranked-parts r n ns o =
     let parts = and-parts (leb r (rankOf n)) (ltb (rankOf n) (length table)) (rankedFrom (rankOf n) ns) o in

@@ -1,3 +1,4 @@
 pub mod VerdictLaws
 pub mod GateLaws
 pub mod CauseLaws
+pub mod NamedLaws

@@ -12,25 +12,16 @@ use Rattle.refusal.specs.Refusals.{numberOf, isAccepted, whenAccepted}
 use Rattle.refusal.specs.Causes.{Cause, told, holds, refuseBy, firstOf, paired, numbersOf, placeIn, rankedFrom}
 use Rattle.refusal.proofs.CauseLaws.{told-refuses, first-append}
 use Rattle.refusal.proofs.VerdictLaws.{accepted-is, refused-leaves}
-use Rattle.cell.specs.Cell.{soundOf}
 use Rattle.sketch.specs.declared.MicroCm.{MicroCm}
 use Rattle.clock.specs.Clock.{tickOf, advanceOf}
-use Rattle.sketch.specs.Sketch.{cellOf, keyCells, allCells}
-use Rattle.sketch.specs.Audit.{firstUnsound}
+use Rattle.sketch.specs.Sketch.{keyCells, allCells}
 use Rattle.sketch.specs.Refusals.{otherShape, otherFrame, otherSubWindow, badCells, refuseUnsound, judgedCells, sketchVerdict, lowerOf, mergeVerdict}
 use Rattle.sketch.specs.Causes.{sketchCauses, mergeCauses, SketchCalls}
+use Rattle.sketch.proofs.AuditLaws.{search-is}
 
 -- 14 IS ONE CAUSE
 pub one-cause : (k : MicroCm) (g cells : List ℕ) (rest : Verdict) → refuseUnsound k g cells rest ≡ refuseBy (badCells k g cells) rest
-unfolding firstUnsound
-one-cause k g [] rest = refl
-one-cause k g (j ∷ js) rest = by (soundOf (k .params .t) (k .params .c) (cellOf k g j)) (one-cause k g js rest)
-  where
-    by : (x : Bool) → refuseUnsound k g js rest ≡ refuseBy (badCells k g js) rest
-        → cond x (refuseUnsound k g js rest) (Unsound j)
-        ≡ cond (cond x (firstUnsound (λ i. true) false k g js) true) (Unsound (cond x (firstUnsound (λ i. i) 0 k g js) j)) rest
-    by true e = e
-    by false e = refl
+one-cause k g cells rest = search-is Unsound rest k g cells
 
 -- TWO SKETCHES: the lower of two verdicts is that of their causes side by side, where these rise alike
 unfoldable risesFrom : ℕ → List ℕ → Bool

@@ -11,6 +11,8 @@ pub mod FreshLaws
 pub mod AuditLaws
 pub mod CauseTheorems
 pub mod AcceptanceLaws
+pub mod NamedLaws
+pub mod NamedWorked
 pub mod ReadingLaws
 pub mod JudgeCases
 pub mod JudgeLoops

@@ -5,5 +5,7 @@ pub mod Audit
 pub mod Refusals
 pub mod Causes
 pub mod Acceptance
+pub mod Named
+pub mod NamedExamples
 pub mod BenchSheet
 pub mod Workers

@@ -5,3 +5,4 @@ pub mod LoadLaws
 pub mod Theorems
 pub mod LoadWork
 pub mod CauseTheorems
+pub mod NamedLaws

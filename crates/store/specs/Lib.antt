@@ -1,4 +1,5 @@
 pub mod Store
 pub mod Refusals
 pub mod Causes
+pub mod Named
 pub mod Workers

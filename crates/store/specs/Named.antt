@@ -1,0 +1,20 @@
+-- Document 02, T-09, for the block store: a save judges the grid that it is lent, a load the stored cells.
+use Prim.Native.Nat.{ℕ}
+use mathlib.Core.List.{List}
+use Rattle.refusal.specs.Causes.{First}
+use Rattle.refusal.specs.Named.{Names, Keeps}
+use Rattle.sketch.specs.declared.MicroCm.{MicroCm}
+use Rattle.sketch.specs.Named.{GridCell, SmallestUnsound}
+use Rattle.store_header.specs.Header.{sketchIn}
+use Rattle.store.specs.Refusals.{headerPayload, gridIn, saveCall, loadCall}
+use Rattle.store.specs.Causes.{saveCauses, loadCauses}
+
+-- an unsound cell of the stored grid, and the smallest of these
+abbrev pub SmallestStored : List ℕ → ℕ → Type 0
+SmallestStored store j = let k = sketchIn (headerPayload store) in SmallestUnsound (GridCell k) k (gridIn k store) j
+
+-- BOTH CALLS; a load goes by its own order
+pub record StoreNames : Type 0 where
+  pub save : (k : MicroCm) (g store : List ℕ) → Keeps (saveCauses k g store) (SmallestUnsound (GridCell k) k g) (saveCall k g store .verdict)
+  pub load : (g store : List ℕ) → First (loadCall g store .answer .verdict) (loadCauses g store)
+  pub load-names : (g store : List ℕ) → Names (loadCall g store .answer .verdict) (SmallestStored store)
