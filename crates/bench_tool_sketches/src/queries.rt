@@ -21,6 +21,17 @@ pub fn answer(kind: Kind, line: &[u8], sketch: MicroCm, grid: &[u8]) {
     }
 }
 
+// Where the cell stands, as document 02, T-09, has it: the first in grid order.
+fn unsound(cols: usize, index: usize) {
+    // A sketch that was audited has columns.
+    if cols == 0 {
+        return;
+    }
+    print::number(b"ok unsound row=", (index / cols) as u64);
+    print::number(b" column=", (index % cols) as u64);
+    print::number(b" index=", index as u64);
+}
+
 fn audit(sketch: MicroCm, grid: &[u8]) {
     let answer = sketch_queries::audit(sketch, grid);
     let verdict = answer.verdict;
@@ -31,7 +42,7 @@ fn audit(sketch: MicroCm, grid: &[u8]) {
     let finding = answer.audit;
     match finding {
         Finding::Sound => print::text(b"ok sound"),
-        Finding::Unsound(index) => print::number(b"ok unsound index=", index as u64),
+        Finding::Unsound(index) => unsound(sketch.cols, index),
     }
     print::text(b"\n");
 }

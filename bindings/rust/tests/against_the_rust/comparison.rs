@@ -21,6 +21,7 @@ mod hits;
 mod junk;
 mod layout;
 mod load_order;
+mod named;
 mod numbers;
 mod pair;
 mod pairs;
@@ -32,6 +33,7 @@ mod score;
 mod stores;
 mod stories;
 mod tally;
+mod unsound;
 
 #[allow(dead_code)]
 #[path = "../../../../oracle/src/choose.rs"]
@@ -111,12 +113,13 @@ fn story(dice: &mut Dice) -> Outcome {
     if code_calls::askings() < score::calls() / CALLS_AN_ASKING {
         return code_calls::counted(code_story(dice));
     }
-    match dice.below(26) {
+    match dice.below(27) {
         0..12 => stories::story(dice),
         12..15 => cells::story(dice),
         15..18 => random_calls::story(dice),
         18..20 => damage::story(dice),
         20..22 => draws::story(dice),
+        22 => unsound::story(dice),
         _ => band::story(dice),
     }
 }
@@ -130,7 +133,7 @@ fn code_story(dice: &mut Dice) -> Outcome {
 
 fn compare(run: &Run) -> Score {
     let mut score = Score::default();
-    let directed = directed::ALL.into_iter().chain(refusals::ALL);
+    let directed = directed::ALL.into_iter().chain(refusals::ALL).chain(unsound::ALL);
     for (name, story) in directed.chain(draws::ALL).chain(band::ALL).chain(pairs::ALL) {
         score.count(name, story());
     }
@@ -141,6 +144,9 @@ fn compare(run: &Run) -> Score {
     while score::calls() < run.calls && score.differences < ENOUGH {
         score.count("random", story(&mut dice));
     }
+    let (line, outcome) = named::told();
+    println!("{line}");
+    score.count("cells named", outcome);
     for call in hits::CALLS {
         let (line, outcome) = hits::told(call);
         println!("{line}");

@@ -4,6 +4,7 @@ use crate::choose::Dice;
 use crate::hits;
 use crate::junk;
 use crate::load_order;
+use crate::named::{self, names};
 use crate::numbers;
 use crate::plain_calls::{self, Told};
 use crate::score::{Outcome, called, number, same, same_bytes, same_number, unchanged};
@@ -97,8 +98,7 @@ pub fn load(store: &[u8], bytes: usize) -> Told {
     let right = hits::number("load", &load_order::load(store, Some(bytes)));
     let told = plain_calls::told("the load's number", answer, right, index)?;
     unchanged("the store lent", &lent, store)?;
-    let named = right != 14 && index == 0 || right == 14 && load_order::unsound_at(store, index as usize);
-    same("an unsound cell is named with 14, and else none", named, true)?;
+    names(right, index, || named::in_grid(&load_order::stored(store)))?;
     if right == 0 {
         let ours = called(MicroCm::load(store)).map_err(|why| why.to_string())?;
         same("the sketch loaded", sketch, ours.plain())?;

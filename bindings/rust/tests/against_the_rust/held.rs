@@ -5,7 +5,6 @@ use crate::choose::Dice;
 use crate::judge::{self, Settings};
 use crate::layout;
 use crate::numbers;
-use crate::score::{Outcome, same};
 use crate::stories;
 use microscope::calls::Sketch;
 
@@ -30,20 +29,18 @@ pub fn sketch_of(settings: &Settings, reading: u64, state: u64) -> Sketch {
     }
 }
 
-/// Makes some cell unsound: a zoom above the largest, or a shutter at c^Z or above.
-fn spoil_cell(dice: &mut Dice, held: &mut Held) {
+/// Makes this cell unsound: a zoom above the largest, or a shutter at c^Z or above.
+pub fn spoil_cell(dice: &mut Dice, held: &mut Held, index: usize) {
     let (t, c) = (held.sketch.t, held.sketch.c);
-    let depth = layout::depth(t);
-    let cells = held.grid.len() / depth;
-    let at = dice.below(cells as u64) as usize * depth;
-    let cell = &mut held.grid[at..];
+    let cell = &mut held.grid[index * layout::depth(t)..];
     let (zoom, shutter) = (zoom_at(t as usize), shutter_at(t as usize));
-    let unit = numbers::unit(c, cell[zoom]).expect("a sound cell");
-    if dice.chance(50) {
-        cell[zoom] = dice.one_of(&[judge::max_zoom(c as u16) + 1, 255]);
-    } else {
-        let items = dice.one_of(&[unit, u32::MAX as u64]) as u32;
-        cell[shutter].copy_from_slice(&items.to_le_bytes());
+    // Of a zoom that is too high already there is no c^Z.
+    match numbers::unit(c, cell[zoom]) {
+        Some(unit) if dice.chance(50) => {
+            let items = dice.one_of(&[unit, u32::MAX as u64]) as u32;
+            cell[shutter].copy_from_slice(&items.to_le_bytes());
+        }
+        _ => cell[zoom] = dice.one_of(&[judge::max_zoom(c as u16) + 1, 255]),
     }
 }
 
@@ -85,7 +82,9 @@ pub fn held(dice: &mut Dice) -> Held {
 /// Mostly one thing wrong; sometimes none, sometimes more.
 pub fn spoil(dice: &mut Dice, held: &mut Held) {
     if dice.chance(20) {
-        spoil_cell(dice, held);
+        let cells = held.grid.len() / layout::depth(held.sketch.t);
+        let index = dice.below(cells as u64) as usize;
+        spoil_cell(dice, held, index);
     }
     if dice.chance(15) {
         spoil_length(dice, &mut held.grid);
@@ -99,10 +98,9 @@ pub fn spoil(dice: &mut Dice, held: &mut Held) {
     }
 }
 
-/// The Rust's own sketch of values that ours accepts.
-pub fn published(held: &Held) -> judge::Sketch {
-    let s = &held.sketch;
-    let settings = Settings {
+/// The settings of a sketch that ours accepts.
+pub fn settings_of(s: &Sketch) -> Settings {
+    Settings {
         rows: s.rows as u16,
         cols: s.cols as u32,
         t: s.t as u16,
@@ -111,20 +109,14 @@ pub fn published(held: &Held) -> judge::Sketch {
         length: s.length,
         epoch: s.epoch,
         seed: 1,
-    };
-    let mut theirs = settings.make();
+    }
+}
+
+/// The Rust's own sketch of values that ours accepts.
+pub fn published(held: &Held) -> judge::Sketch {
+    let s = &held.sketch;
+    let mut theirs = settings_of(s).make();
     judge::set(&mut theirs, s.reading, s.state);
     judge::set_grid(&mut theirs, &layout::to_theirs(s.t, &held.grid));
     theirs
-}
-
-/// With 14 an unsound cell is named, with any other number none.
-pub fn names(number: u64, index: u64, held: &[&Held]) -> Outcome {
-    if number != 14 {
-        return same("index", index, 0);
-    }
-    let named = held
-        .iter()
-        .any(|held| numbers::unsound_at(&held.sketch, &held.grid, index as usize));
-    same("an unsound cell is named", named, true)
 }

@@ -1,5 +1,6 @@
 //! A load's own order of numbers.
 
+use crate::held::Held;
 use crate::numbers::{self, Causes, any_unsound, grid_bytes, store_length, then};
 use crate::stores::{BLOCK, sum_of};
 use microscope::calls::{Shape, Sketch};
@@ -96,7 +97,10 @@ fn carried(store: &[u8]) -> Vec<u8> {
         .collect()
 }
 
-/// Whether this cell of a store with a whole block 0 is unsound.
-pub fn unsound_at(store: &[u8], index: usize) -> bool {
-    numbers::unsound_at(&told(store), &carried(store), index)
+/// The sketch and the grid in a store with a whole block 0.
+pub fn stored(store: &[u8]) -> Held {
+    Held {
+        sketch: told(store),
+        grid: carried(store),
+    }
 }

@@ -62,7 +62,7 @@ pub fn with_grid(s: &Sketch, grid: &[u8]) -> Causes {
     then(sketch(s), [(6, grid.len() != grid_bytes(s))])
 }
 
-fn key_fits(s: &Sketch, key: &[u32]) -> bool {
+pub fn key_fits(s: &Sketch, key: &[u32]) -> bool {
     key.len() as u64 == s.rows && key.iter().all(|&column| (column as u64) < s.cols)
 }
 
@@ -103,13 +103,8 @@ pub fn unsound_at(s: &Sketch, grid: &[u8], index: usize) -> bool {
     cell.is_some_and(|cell| unsound(s.t, s.c, cell))
 }
 
-/// The first in grid order.
-pub fn first_unsound(s: &Sketch, grid: &[u8]) -> Option<usize> {
-    grid.chunks_exact(depth(s.t)).position(|cell| unsound(s.t, s.c, cell))
-}
-
 pub fn any_unsound(s: &Sketch, grid: &[u8]) -> bool {
-    first_unsound(s, grid).is_some()
+    grid.chunks_exact(depth(s.t)).any(|cell| unsound(s.t, s.c, cell))
 }
 
 /// The index of a cell, if there is one.
@@ -124,10 +119,14 @@ fn key_unsound(s: &Sketch, key: &[u32], grid: &[u8]) -> bool {
         .any(|(row, column)| unsound_at(s, grid, cell_at(s, row, column)))
 }
 
-/// Whether an unsound cell is judged on the way to this reading: of all cells if the clock crosses, else of the key's. A
-/// call for the other kind of clock crosses nothing.
+/// Whether a call on this kind of clock crosses on the way to this reading. One for the other kind crosses nothing.
+pub fn crosses(s: &Sketch, kind: u64, reading: u64) -> bool {
+    s.kind == kind && n_at(s, reading) != n_of(s)
+}
+
+/// Whether an unsound cell is judged on the way to this reading: of all cells if the clock crosses, else of the key's.
 fn judged(s: &Sketch, key: &[u32], kind: u64, reading: u64, grid: &[u8]) -> bool {
-    if s.kind == kind && n_at(s, reading) != n_of(s) {
+    if crosses(s, kind, reading) {
         any_unsound(s, grid)
     } else {
         key_unsound(s, key, grid)

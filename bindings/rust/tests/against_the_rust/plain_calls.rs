@@ -2,11 +2,12 @@
 //! accepted and as the Rust has it. The Rust is never handed what ours refuses. What a call tells is compared whole, and
 //! before the call junk stands there.
 
-use crate::held::{Held, names, published};
+use crate::held::{Held, published};
 use crate::hits;
 use crate::judge;
 use crate::junk;
 use crate::layout;
+use crate::named::{self, names};
 use crate::numbers;
 use crate::pair::narrow;
 use crate::score::{Outcome, called, number, same, same_bytes, same_number, unchanged, unchanged_one};
@@ -37,11 +38,12 @@ pub fn as_lent(lent: &Held, before: &Held) -> Outcome {
     unchanged("the grid lent", &lent.grid, &before.grid)
 }
 
-/// A call that may change a sketch: its number, what it tells, and what it leaves beside what the Rust leaves. The cell
-/// named with 14 is of the first sketch, or of one that was merged from.
+/// A call that may change a sketch: its number, the cell that is named with 14, what else it tells, and what it leaves
+/// beside what the Rust leaves.
 fn changed(
-    (before, other): (&Held, Option<&Held>),
+    before: &Held,
     right: u64,
+    cell: impl FnOnce() -> Option<usize>,
     call: impl FnOnce(&mut Sketch, &mut [u8], &mut Change) -> Answer,
     theirs: impl FnOnce(&mut judge::Sketch),
 ) -> Told {
@@ -50,8 +52,7 @@ fn changed(
     let answer = called(call(&mut left.sketch, &mut left.grid, &mut change));
     let told = told("number", answer, right, change.index)?;
     if right != 0 {
-        let cells: Vec<&Held> = other.into_iter().chain([before]).collect();
-        names(right, change.index, &cells)?;
+        names(right, change.index, cell)?;
         same(
             "the draws of a refusal, and the room",
             (change.draws, change.room),
@@ -85,8 +86,9 @@ pub fn update(before: &Held, key: &[u32]) -> Told {
     let lent = key.to_vec();
     let right = hits::number("update", &numbers::update(&before.sketch, key, &before.grid));
     let told = changed(
-        (before, None),
+        before,
         right,
+        || named::moving(before, key, 0, before.sketch.reading.saturating_add(1)),
         |sketch, grid, change| calls::update(sketch, &lent, grid, change),
         |theirs| judge::update(theirs, &narrow(key)),
     )?;
@@ -98,8 +100,9 @@ pub fn update_at(before: &Held, key: &[u32], time: u64) -> Told {
     let lent = key.to_vec();
     let causes = numbers::update_at(&before.sketch, key, time, &before.grid);
     let told = changed(
-        (before, None),
+        before,
         hits::number("update_at", &causes),
+        || named::moving(before, key, 1, before.sketch.reading.max(time)),
         |sketch, grid, change| calls::update_at(sketch, &lent, time, grid, change),
         |theirs| judge::update_at(theirs, &narrow(key), time).expect("a clock of time"),
     )?;
@@ -110,8 +113,9 @@ pub fn update_at(before: &Held, key: &[u32], time: u64) -> Told {
 pub fn advance_to(before: &Held, time: u64) -> Told {
     let right = hits::number("advance_to", &numbers::advance_to(&before.sketch, time, &before.grid));
     changed(
-        (before, None),
+        before,
         right,
+        || named::moving(before, &[], 1, before.sketch.reading.max(time)),
         |sketch, grid, change| calls::advance_to(sketch, time, grid, change),
         |theirs| judge::advance_to(theirs, time).expect("a clock of time"),
     )
@@ -121,8 +125,9 @@ pub fn merge(mine: &Held, other: &Held) -> Told {
     let lent = other.clone();
     let causes = numbers::merge(&mine.sketch, &mine.grid, &other.sketch, &other.grid);
     let told = changed(
-        (mine, Some(other)),
+        mine,
         hits::number("merge", &causes),
+        || named::in_merge(mine, other),
         |sketch, grid, change| calls::merge(sketch, grid, &lent.sketch, &lent.grid, change),
         |theirs| judge::merge_sketches(theirs, &published(other)).expect("they meet"),
     )?;

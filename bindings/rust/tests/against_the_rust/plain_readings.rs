@@ -1,10 +1,11 @@
 //! The calls with plain values that leave a sketch as it is, beside the Rust's figures and document 01's table.
 
-use crate::held::{Held, names, published};
+use crate::held::{Held, published};
 use crate::hits;
 use crate::judge;
 use crate::junk;
 use crate::load_order;
+use crate::named::{self, names};
 use crate::numbers;
 use crate::pair::narrow;
 use crate::plain_calls::{Answer, Told, as_lent, told};
@@ -23,7 +24,7 @@ fn read(
     let (mut figures, mut items) = (junk::FIGURES, junk::ITEMS);
     let answer = called(call(&lent, &lent_key, &mut figures, &mut items));
     let told = told("the reading's number", answer, right, items.index)?;
-    names(right, items.index, &[held])?;
+    names(right, items.index, || named::of_key(held, key))?;
     let figures_right = if right == 0 { theirs(&published(held)) } else { [0; 4] };
     let [over, under, ..] = figures_right.map(f64::from_bits);
     let Figures {
@@ -66,10 +67,11 @@ pub fn estimate_with(held: &Held, key: &[u32], fraction: f64) -> Told {
     )
 }
 
-/// A whole number beside the right one; 0 if refused.
+/// A whole number beside the right one, 0 if refused; and the cell that is named with 14.
 fn valued(
     held: &Held,
     right: u64,
+    cell: impl FnOnce() -> Option<usize>,
     call: impl FnOnce(&Held, &mut Value) -> Answer,
     theirs: impl FnOnce(&judge::Sketch) -> u64,
 ) -> Told {
@@ -77,7 +79,7 @@ fn valued(
     let mut value = junk::VALUE;
     let answer = called(call(&lent, &mut value));
     let told = told("the value's number", answer, right, value.index)?;
-    names(right, value.index, &[held])?;
+    names(right, value.index, cell)?;
     let value_right = if right == 0 { theirs(&published(held)) } else { 0 };
     same("value", value.value, value_right)?;
     as_lent(&lent, held)?;
@@ -90,6 +92,7 @@ pub fn mean(held: &Held, key: &[u32]) -> Told {
     let told = valued(
         held,
         right,
+        || named::of_key(held, key),
         |lent, mean| calls::mean(&lent.sketch, &lent_key, &lent.grid, mean),
         |theirs| {
             let [_, under, ..] = judge::read(theirs, &narrow(key));
@@ -105,19 +108,20 @@ pub fn max_zoom(held: &Held) -> Told {
     valued(
         held,
         right,
+        || named::in_grid(held),
         |lent, zoom| calls::max_zoom(&lent.sketch, &lent.grid, zoom),
         |theirs| theirs.max_zoom() as u64,
     )
 }
 
-/// The index told is 1 + that of the first unsound cell, 0 if there is none.
+/// The index told is 1 + that of the smallest unsound cell, 0 if there is none.
 pub fn audit(held: &Held) -> Told {
     let lent = held.clone();
     let mut found = junk::FOUND;
     let answer = called(calls::audit(&lent.sketch, &lent.grid, &mut found));
     let right = hits::number("audit", &numbers::with_grid(&held.sketch, &held.grid));
     let (number, _) = told("the audit's number", answer, right, 0)?;
-    let first = numbers::first_unsound(&held.sketch, &held.grid).filter(|_| right == 0);
+    let first = if right == 0 { named::in_grid(held) } else { None };
     let found_right = Found {
         index: first.unwrap_or(0) as u64,
         unsound: first.is_some() as u64,
@@ -157,7 +161,7 @@ pub fn save(held: &Held, room: usize) -> Told {
     let mut index = junk::WORD;
     let answer = called(calls::save(&lent.sketch, &lent.grid, &mut store, &mut index));
     let right = hits::number("save", &numbers::save(&held.sketch, &held.grid, room));
-    names(right, index, &[held])?;
+    names(right, index, || named::in_grid(held))?;
     as_lent(&lent, held)?;
     if right == 0 {
         let causes = load_order::load(&store, Some(held.grid.len()));
