@@ -35,6 +35,12 @@
  * If more than one number applies it is the one that comes first in this order: 1 to 7, 19, 20, 8 to 18. So it is the
  * lowest, but that 19 and 20, which are newer, rank by their place: after 7, before 8 and 14. A load has an order of its
  * own: see there.
+ *
+ * UNSOUND CELLS. An index is row x cols + column. The one told with 14, and by an audit, is the smallest of the unsound
+ * cells among those that the call judges: of a reading, a mean or an item the key's; of an audit, a highest zoom, a save,
+ * and of an item or time that passes where a sub-window begins, all of the grid; of a load all that are stored; of an
+ * asking those of all codes. A merge judges both grids, and names the other's only where every cell of the receiving one is
+ * sound. No index is left free: two libraries that keep document 02, T-09, name the same cell.
  */
 #ifndef MICROSCOPE_H
 #define MICROSCOPE_H
@@ -65,7 +71,7 @@ enum {
     MICROSCOPE_FRAMES = 11,      /* merge: the clocks' kind, length or epoch differ */
     MICROSCOPE_SUB_WINDOWS = 12, /* merge: the sub-windows reached differ */
     MICROSCOPE_FRACTION = 13,    /* the given fraction is NaN or not within 0 and 1, and there is an oldest sub-window */
-    MICROSCOPE_UNSOUND = 14,     /* an unsound cell; `index` is row x cols + column of it, and 0 in a call on one cell */
+    MICROSCOPE_UNSOUND = 14,     /* an unsound cell; `index` is the smallest of those judged, and 0 in a call on one cell */
     MICROSCOPE_DIVISOR = 15,     /* a divisor of 0 */
     MICROSCOPE_STORE_LENGTH = 16, /* a store is not the exact length */
     MICROSCOPE_BLOCK = 17,       /* a block's check or number: the store is damaged */
@@ -195,7 +201,7 @@ typedef struct {
     uint64_t value;
 } microscope_value;
 
-/* What an audit found: `unsound` is 1 and `index` names the first unsound cell, or both are 0. */
+/* What an audit found: `unsound` is 1 and `index` is the smallest of all unsound cells, or both are 0. */
 typedef struct {
     uint64_t index;
     uint64_t unsound;
@@ -292,7 +298,10 @@ uint64_t microscope_bucket_check(const microscope_sketch *sketch, uint64_t row, 
 uint64_t microscope_max_zoom(const microscope_sketch *sketch, const uint8_t *grid, size_t grid_bytes,
                              microscope_value *zoom);
 
-/* Whether every cell is sound. Those of a fresh sketch are, and no call makes a sound cell unsound. */
+/*
+ * Whether every cell is sound, and if not the first that is not, by row, then column: it stands at row `index / cols`, column
+ * `index % cols`. Those of a fresh sketch are sound, and no call makes a sound cell unsound.
+ */
 uint64_t microscope_audit(const microscope_sketch *sketch, const uint8_t *grid, size_t grid_bytes,
                           microscope_found *found);
 

@@ -100,7 +100,7 @@ pub struct Watch {
 #[repr(C)]
 #[derive(Clone, Copy, Debug, Default, PartialEq, Eq)]
 pub struct Change {
-    /// With 14 the unsound cell, else 0.
+    /// With 14 the smallest unsound cell of those judged, else 0.
     pub index: u64,
     /// Random draws that the call made.
     pub draws: u64,
@@ -152,7 +152,7 @@ pub struct Figures {
 #[repr(C)]
 #[derive(Clone, Copy, Debug, Default, PartialEq, Eq)]
 pub struct Items {
-    /// With 14 the unsound cell, else 0.
+    /// With 14 the smallest unsound cell of those judged, else 0.
     pub index: u64,
     /// The t latest sub-windows and the one before them.
     pub over: u64,
@@ -179,7 +179,7 @@ pub struct Items {
 #[repr(C)]
 #[derive(Clone, Copy, Debug, Default, PartialEq, Eq)]
 pub struct Value {
-    /// With 14 the unsound cell, else 0.
+    /// With 14 the smallest unsound cell of those judged, else 0.
     pub index: u64,
     /// The number asked for.
     pub value: u64,
@@ -193,7 +193,8 @@ pub struct Value {
 /// # let (mut sketch, mut watch) = (Sketch::default(), Watch::default());
 /// # let mut grid = [0; 2 * 64 * 20];
 /// # calls::new(&mut sketch, &mut watch, 2, 64, 12, 2, calls::ITEMS, 1000, 0, 1, &mut grid)?;
-/// grid[(17 * 20) + 14] = 255; // the zoom of the cell at row 0, column 17
+/// grid[(66 * 20) + 14] = 255; // the zoom of the cell at row 1, column 2
+/// grid[(17 * 20) + 14] = 255; // and at row 0, column 17, which comes first
 /// let mut found = Found::default();
 /// calls::audit(&sketch, &grid, &mut found)?;
 /// assert_eq!(found, Found { index: 17, unsound: 1 });
@@ -202,7 +203,7 @@ pub struct Value {
 #[repr(C)]
 #[derive(Clone, Copy, Debug, Default, PartialEq, Eq)]
 pub struct Found {
-    /// The first unsound cell, row × cols + column; 0 if there is none.
+    /// The smallest of all unsound cells, row × cols + column; 0 if there is none.
     pub index: u64,
     /// 1 if there is one.
     pub unsound: u64,

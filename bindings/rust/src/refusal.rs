@@ -50,7 +50,8 @@ pub enum Refusal {
     Fraction,
     /// 14: an unsound cell.
     Unsound {
-        /// The cell: row × cols + column, and 0 in a call on one cell.
+        /// The smallest of the unsound cells among those that the call judges: row × cols + column. A merge names the other
+        /// grid's only where every cell of the receiving one is sound. 0 in a call on one cell.
         index: usize,
     },
     /// 15: a divisor of 0.
@@ -97,7 +98,7 @@ impl Refusal {
         }
     }
 
-    /// The unsound cell, row × cols + column, if that is what the call was refused for.
+    /// The unsound cell that is named ([`Refusal::Unsound`]), if that is what the call was refused for.
     pub fn index(&self) -> Option<usize> {
         match *self {
             Self::Unsound { index } => Some(index),

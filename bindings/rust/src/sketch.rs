@@ -203,7 +203,8 @@ impl MicroCm {
         Ok(zoom.value as u8)
     }
 
-    /// The first unsound cell (row × cols + column), if there is one. A sketch that only these methods wrote has none.
+    /// The first unsound cell in grid order, by row, then column, as row × cols + column, if there is one. A sketch that
+    /// only these methods wrote has none.
     pub fn audit(&self) -> Result<Option<usize>, Error> {
         let mut found = Found::default();
         calls::audit(&self.sketch, &self.grid, &mut found)?;
