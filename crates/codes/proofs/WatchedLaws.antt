@@ -18,10 +18,11 @@ use Rattle.sketch.specs.Workers.{Judged, Readable}
 use Rattle.sketch.specs.Acceptance.{soundAt}
 use Rattle.sketch.specs.Named.{SmallestUnsound}
 use Rattle.sketch.proofs.AuditLaws.{search-is}
-use Rattle.sketch.proofs.NamedLaws.{someBad, firstBad}
+use Rattle.sketch.proofs.NamedLaws.{someBad, firstBad, Searched}
 use Rattle.sketch.proofs.AddressLaws.{product-le}
 use Rattle.sketch.proofs.KeyLaws.{KeyFrom, key-cells-below}
 use Rattle.sketch.proofs.ReadingLaws.{key-read}
+use Rattle.sketch.proofs.KeyCellLaws.{row-sound}
 use Rattle.codes.specs.declared.Watch.{Watch}
 use Rattle.codes.specs.Codes.{codeIn, codeCells, watchedCells}
 use Rattle.codes.specs.Named.{CodeCell}
@@ -69,7 +70,7 @@ module _ (k : MicroCm) (w : Watch) (columns g : List ℕ) (room : ℕ) (good : G
   abbrev cells : List ℕ
   cells = watchedCells k columns (w .count)
 
-  pub codes-smallest : someBad k g cells ≡ true → SmallestUnsound (CodeCell k w columns) k g (firstBad k g cells)
+  codes-smallest : someBad k g cells ≡ true → SmallestUnsound (CodeCell k w columns) k g (firstBad k g cells)
   codes-smallest e =
       let roomy = codes-room k w columns g room good long in
       let told : refuseUnsound k g cells Accepted ≡ Unsound (firstBad k g cells) = search-is Unsound Accepted k g cells ∙ rw e refl in
@@ -102,3 +103,12 @@ module _ (k : MicroCm) (w : Watch) (columns g : List ℕ) (room : ℕ) (good : G
               let listed = code-cell-in k columns (w .count) (c .code) i (c .watched) (rw (c .cell .is) mine) in
               absurd (true≢false (sym (it .earlier i (omega arith) (ltb-true _ _ q) listed) ∙ bad))
           by false q = ltb-false _ _ q
+
+  codes-clear : someBad k g cells ≡ false → (i : ℕ) → CodeCell k w columns i → soundAt k g i ≡ true
+  codes-clear e i c =
+      let sound : Judged k g cells = search-is Unsound Accepted k g cells ∙ rw e refl in
+      let read = code-readable k w columns g room good long sound (c .code) (c .watched) in
+      rw (c .cell .is) (row-sound k g (codeIn (k .rows) columns (c .code)) read (c .cell .row) (c .cell .inside))
+
+  pub codes-searched : Searched (CodeCell k w columns) k g cells
+  codes-searched = record { found = codes-smallest; clear = codes-clear }

@@ -3,9 +3,8 @@ use Prim.Native.Nat.{ℕ, _<_}
 use mathlib.Core.Path.{_≡_}
 use mathlib.Core.List.{List}
 use lib.ListN.{length}
-use Rattle.refusal.specs.Named.{Keeps}
 use Rattle.sketch.specs.declared.MicroCm.{MicroCm}
-use Rattle.sketch.specs.Named.{KeyCell, SmallestUnsound}
+use Rattle.sketch.specs.Named.{KeyCell, Judges}
 use Rattle.codes.specs.declared.Watch.{Watch}
 use Rattle.codes.specs.Codes.{codeIn}
 use Rattle.codes.specs.Refusals.{askCall}
@@ -20,4 +19,4 @@ pub record CodeCell (k : MicroCm) (w : Watch) (columns : List ℕ) (j : ℕ) : T
 -- AN ASKING: the smallest over all the codes, whatever their order
 pub record CodeNames : Type 0 where
   pub ask : (k : MicroCm) (w : Watch) (columns limits g list : List ℕ) → length columns ≡ 8192
-      → Keeps (askCauses k w columns g (length list)) (SmallestUnsound (CodeCell k w columns) k g) (askCall k w columns limits g list .answer .verdict)
+      → Judges (CodeCell k w columns) k g (askCauses k w columns g (length list)) (askCall k w columns limits g list .answer .verdict)

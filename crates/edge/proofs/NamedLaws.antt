@@ -42,19 +42,19 @@ found k g (Unsound j) p = record { clear = λ e. absurd (omega (arith, e)); name
 pub edge-names : EdgeNames
 unfolding auditCall
 edge-names = record {
-  update = λ w key g. sketch-names .update (sketchOf w) key g .names;
-  update-at = λ w key time g. sketch-names .update-at (sketchOf w) key time g .names;
-  advance-to = λ w time g. sketch-names .advance (sketchOf w) time g .names;
-  estimate = λ w key g. sketch-names .read (sketchOf w) key g .names;
-  estimate-with = λ w key fraction g. sketch-names .read-with (sketchOf w) key fraction g .names;
-  mean = λ w key g. sketch-names .mean (sketchOf w) key g .names;
-  max-zoom = λ w g. sketch-names .highest (sketchOf w) g .names;
+  update = λ w key g. sketch-names .update (sketchOf w) key g .keeps .names;
+  update-at = λ w key time g. sketch-names .update-at (sketchOf w) key time g .keeps .names;
+  advance-to = λ w time g. sketch-names .advance (sketchOf w) time g .keeps .names;
+  estimate = λ w key g. sketch-names .read (sketchOf w) key g .keeps .names;
+  estimate-with = λ w key fraction g. sketch-names .read-with (sketchOf w) key fraction g .keeps .names;
+  mean = λ w key g. sketch-names .mean (sketchOf w) key g .keeps .names;
+  max-zoom = λ w g. sketch-names .highest (sketchOf w) g .keeps .names;
   audit = λ w g e. found (sketchOf w) g _ (sketch-names .audit (sketchOf w) g (accepted-by-0 (sketchOf w) g e));
-  save = λ w g store. store-names .save (sketchOf w) g store .names;
+  save = λ w g store. store-names .save (sketchOf w) g store .keeps .names;
   load = λ w p g store. store-names .load-names g store;
   merge = λ w g other g'. sketch-names .merge (sketchOf w) g (sketchOf other) g' .names;
-  ask = λ w p columns limits g list long. code-names .ask (sketchOf w) (watchOf p) columns limits g list long .names;
-  insert = λ t c n b state. cell-names .insert (paramsOf t c) n b state .names;
-  enter-sub-window = λ t c n crossed b state. cell-names .cross (paramsOf t c) n crossed b state .names;
+  ask = λ w p columns limits g list long. code-names .ask (sketchOf w) (watchOf p) columns limits g list long .keeps .names;
+  insert = λ t c n b state. cell-names .insert (paramsOf t c) n b state .keeps .names;
+  enter-sub-window = λ t c n crossed b state. cell-names .cross (paramsOf t c) n crossed b state .keeps .names;
   merge-cells = λ t c n b b' state. cell-names .merge (paramsOf t c) n b b' state .names;
 }

@@ -9,11 +9,12 @@ use lib.Dec.{leb, ltb, eqb}
 use lib.ListN.{length}
 use borrow.Author.Tests.{ltb-true, eqb-true, eq-eqb}
 use Rattle.refusal.specs.declared.Verdict.{Verdict}
-use Rattle.refusal.specs.declared.Verdict.the-variants.{Accepted}
+use Rattle.refusal.specs.declared.Verdict.the-variants.{Accepted, Unsound}
 use Rattle.refusal.specs.Refusals.{numberOf, indexOf, isAccepted}
 use Rattle.refusal.specs.Causes.{Cause, unsound, told, holds, firstOf, applies, numbersOf, table, placeIn, rankOf, rankedFrom, Lowest, First}
 use Rattle.refusal.specs.Named.{TwoCores}
-use Rattle.refusal.proofs.VerdictLaws.{accepted-is, refused-leaves}
+use Rattle.refusal.proofs.VerdictLaws.{accepted-is, refused-never, refused-leaves}
+use Rattle.refusal.proofs.GateLaws.{both-accepted}
 use Rattle.refusal.proofs.CauseLaws.{first-holds, first-fails, first-append, applies-where, ranked-parts, accepts}
 
 -- NO CAUSE of this number
@@ -60,6 +61,16 @@ unsound-told xs j h ys before behind e =
         let none = none-told 14 ys behind (sym (ap numberOf rest) ∙ e) in
         let z : _≡_ {A = ℕ} 0 14 = sym (ap numberOf (rest ∙ none)) ∙ e in
         absurd (omega arith)
+
+-- WHERE ALL IS ACCEPTED it does not hold, nor does one before it
+pub unsound-denied : (xs : List Cause) (j : ℕ) (h : Bool) (ys : List Cause) → firstOf (xs ++ unsound j h ∷ ys) ≡ Accepted → (firstOf xs ≡ Accepted) × (h ≡ false)
+unsound-denied xs j h ys e =
+    let parts = both-accepted (firstOf xs) (firstOf (unsound j h ∷ ys)) (sym (first-append xs (unsound j h ∷ ys)) ∙ e) in
+    (parts .0, by h refl (parts .1))
+  where
+    by : (q : Bool) → h ≡ q → firstOf (unsound j h ∷ ys) ≡ Accepted → h ≡ false
+    by true q e = absurd (refused-never (Unsound j) refl (sym (first-holds (unsound j h) ys q) ∙ e))
+    by false q e = q
 
 -- A NUMBER is found at one place of an order
 place-of-one : (xs : List ℕ) (a b : ℕ) → placeIn xs a < length xs → placeIn xs a ≡ placeIn xs b → a ≡ b

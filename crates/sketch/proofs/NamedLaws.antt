@@ -13,8 +13,9 @@ use Rattle.refusal.specs.declared.Verdict.the-variants.{Accepted}
 use Rattle.refusal.specs.Refusals.{numberOf, indexOf}
 use Rattle.refusal.specs.Causes.{Cause, unsound, firstOf, applies, paired, Told}
 use Rattle.refusal.specs.Named.{Names, Keeps}
-use Rattle.refusal.proofs.CauseLaws.{none-applies, lowest-told}
-use Rattle.refusal.proofs.NamedLaws.{noneIs, told-behind, unsound-told}
+use Rattle.refusal.proofs.CauseLaws.{first-fails, first-append, none-applies, lowest-told}
+use Rattle.refusal.proofs.GateLaws.{both-accepted}
+use Rattle.refusal.proofs.NamedLaws.{noneIs, told-behind, unsound-told, unsound-denied}
 use Rattle.clock.specs.declared.SubWindowClock.{SubWindowClock}
 use Rattle.clock.specs.Clock.{nOf, tickOf, advanceOf}
 use Rattle.clock.specs.Refusals.{isTimed, isCounted}
@@ -29,7 +30,7 @@ use Rattle.sketch.specs.Refusals.{updateCall, updateAtCall, advanceCall,
 use Rattle.sketch.specs.Causes.{sketchCauses}
 use Rattle.sketch.specs.Acceptance.{soundAt, Stays}
 use Rattle.sketch.specs.Named.{GridCell, KeyCell, NoCell, MovingCell, within, crossing, SmallestUnsound, AllSound, SmallestOfTwo, receiving, other}
-use Rattle.sketch.specs.Named.{Printout, SketchNames, OneNamed, GridOrder}
+use Rattle.sketch.specs.Named.{Judges, Printout, SketchNames, OneNamed, GridOrder}
 use Rattle.sketch.proofs.AddressLaws.{key-rows, key-column}
 use Rattle.sketch.proofs.AuditLaws.{search-is}
 use Rattle.sketch.proofs.CauseTheorems.{sketch-calls}
@@ -103,6 +104,20 @@ smallest-of Judged k g cells p e = rw (it .is) (record { judged = p .each (it .p
         by false q =
             let at = p .place i w in
             rw (at .2) (p .rises (it .place) (at .0) (ltb-false _ _ q) (at .1))
+
+-- WHAT A SEARCH among them says: the smallest unsound one, or that each is sound
+pub record Searched (Judged : ℕ → Type 0) (k : MicroCm) (g cells : List ℕ) : Type 0 where
+  pub found : someBad k g cells ≡ true → SmallestUnsound Judged k g (firstBad k g cells)
+  pub clear : someBad k g cells ≡ false → (i : ℕ) → Judged i → soundAt k g i ≡ true
+
+searched-of : (Judged : ℕ → Type 0) (k : MicroCm) (g cells : List ℕ) → Places Judged cells → Searched Judged k g cells
+searched-of Judged k g cells p =
+    record {
+      found = smallest-of Judged k g cells p;
+      clear = λ e i w.
+          let at = p .place i w in
+          rw (at .2) (none-bad k g cells e (at .0) (at .1));
+    }
 
 -- NONE
 no-places : Places NoCell []
@@ -196,14 +211,28 @@ module _ (k : MicroCm) (clock : SubWindowClock) (Within : ℕ → Type 0) where
 
 -- A CALL that judges these cells behind causes that are not 14
 module _ (Judged : ℕ → Type 0) (k : MicroCm) (g cells : List ℕ) (xs ys : List Cause) (before : noneIs 14 xs ≡ true) (behind : noneIs 14 ys ≡ true)
-    (promised : firstOf xs ≡ Accepted → someBad k g cells ≡ true → SmallestUnsound Judged k g (firstBad k g cells)) (v : Verdict) where
-  pub cells-name : v ≡ firstOf (xs ++ badCells k g cells ∷ ys) → Names v (SmallestUnsound Judged k g)
-  cells-name is e =
+    (searched : firstOf xs ≡ Accepted → Searched Judged k g cells) (v : Verdict) (is : v ≡ firstOf (xs ++ badCells k g cells ∷ ys)) where
+  pub cells-name : Names v (SmallestUnsound Judged k g)
+  cells-name e =
       let it = unsound-told xs (firstBad k g cells) (someBad k g cells) ys before behind (sym (ap numberOf is) ∙ e) in
-      rw (ap indexOf is ∙ it .2) (promised (it .0) (it .1))
+      rw (ap indexOf is ∙ it .2) (searched (it .0) .found (it .1))
 
-  pub cells-keep : (ns : List ℕ) → Told v ns (xs ++ badCells k g cells ∷ ys) → Keeps (xs ++ badCells k g cells ∷ ys) (SmallestUnsound Judged k g) v
-  cells-keep ns t = record { lowest = lowest-told v ns (xs ++ badCells k g cells ∷ ys) t; names = cells-name (t .is) }
+  pub cells-clear : v ≡ Accepted → (i : ℕ) → Judged i → soundAt k g i ≡ true
+  cells-clear e =
+      let it = unsound-denied xs (firstBad k g cells) (someBad k g cells) ys (sym is ∙ e) in
+      searched (it .0) .clear (it .1)
+
+pub cells-judge : (Judged : ℕ → Type 0) (k : MicroCm) (g cells : List ℕ) (xs ys : List Cause) → noneIs 14 xs ≡ true → noneIs 14 ys ≡ true
+    → (firstOf xs ≡ Accepted → Searched Judged k g cells) → (v : Verdict) (ns : List ℕ) → Told v ns (xs ++ badCells k g cells ∷ ys)
+    → Judges Judged k g (xs ++ badCells k g cells ∷ ys) v
+cells-judge Judged k g cells xs ys before behind searched v ns t =
+    record {
+      clear = cells-clear Judged k g cells xs ys before behind searched v (t .is);
+      keeps = record {
+        lowest = lowest-told v ns (xs ++ badCells k g cells ∷ ys) t;
+        names = cells-name Judged k g cells xs ys before behind searched v (t .is);
+      };
+    }
 
 -- a key that 7 let pass
 key-passed : (k : MicroCm) (key g : List ℕ) (rest : List Cause) → firstOf (sketchCauses k g ++ badKey k key ∷ rest) ≡ Accepted → keyFits k key ≡ true
@@ -214,26 +243,20 @@ key-passed k key g rest e = not-false _ (by (not (keyFits k key)) (applies 7 res
     by true b e = absurd (true≢false e)
     by false b e = refl
 
--- so what is promised of the key's cells, alone or as a move to this clock judges them, is had
+-- so the key's cells are searched, alone or as a move to this clock judges them
 module _ (k : MicroCm) (key g : List ℕ) (rest : List Cause) (past : firstOf (sketchCauses k g ++ badKey k key ∷ rest) ≡ Accepted) where
-  key-smallest : someBad k g (keyCells k 0 key) ≡ true → SmallestUnsound (KeyCell k key) k g (firstBad k g (keyCells k 0 key))
-  key-smallest = smallest-of (KeyCell k key) k g (keyCells k 0 key) (key-places k key (key-passed k key g rest past))
+  key-searched : Searched (KeyCell k key) k g (keyCells k 0 key)
+  key-searched = searched-of (KeyCell k key) k g (keyCells k 0 key) (key-places k key (key-passed k key g rest past))
 
-  item-smallest : (clock : SubWindowClock) → someBad k g (judgedCells k clock (keyCells k 0 key)) ≡ true
-      → SmallestUnsound (MovingCell k clock (KeyCell k key)) k g (firstBad k g (judgedCells k clock (keyCells k 0 key)))
-  item-smallest clock =
-      smallest-of (MovingCell k clock (KeyCell k key)) k g (judgedCells k clock (keyCells k 0 key))
+  item-searched : (clock : SubWindowClock) → Searched (MovingCell k clock (KeyCell k key)) k g (judgedCells k clock (keyCells k 0 key))
+  item-searched clock =
+      searched-of (MovingCell k clock (KeyCell k key)) k g (judgedCells k clock (keyCells k 0 key))
       (moving-places k clock (KeyCell k key) (keyCells k 0 key) (key-places k key (key-passed k key g rest past)))
 
 -- A WHOLE GRID
 module _ (k : MicroCm) (g : List ℕ) where
-  grid-sound : someBad k g (allCells k) ≡ false → AllSound k g
-  grid-sound e i h =
-      let at = grid-places k .place i h in
-      rw (at .2) (none-bad k g (allCells k) e (at .0) (at .1))
-
-  pub grid-smallest : someBad k g (allCells k) ≡ true → SmallestUnsound (GridCell k) k g (firstBad k g (allCells k))
-  grid-smallest = smallest-of (GridCell k) k g (allCells k) (grid-places k)
+  pub grid-searched : Searched (GridCell k) k g (allCells k)
+  grid-searched = searched-of (GridCell k) k g (allCells k) (grid-places k)
 
   audit-prints : Printout k g (auditOf k g)
   audit-prints = rw (search-is finding.Unsound finding.Sound k g (allCells k)) (by (someBad k g (allCells k)) refl)
@@ -242,9 +265,9 @@ module _ (k : MicroCm) (g : List ℕ) where
       by true q =
           record {
             clear = λ e. absurd (apart _ (sym e));
-            named = λ j e. let same : firstBad k g (allCells k) ≡ j = cc in rw (← same) (grid-smallest q);
+            named = λ j e. let same : firstBad k g (allCells k) ≡ j = cc in rw (← same) (grid-searched .found q);
           }
-      by false q = record { clear = λ e. grid-sound q; named = λ j e. absurd (apart j e) }
+      by false q = record { clear = λ e. grid-searched .clear q; named = λ j e. absurd (apart j e) }
 
 -- A MERGE
 module _ (k : MicroCm) (g : List ℕ) (k' : MicroCm) (g' : List ℕ) where
@@ -258,8 +281,8 @@ module _ (k : MicroCm) (g : List ℕ) (k' : MicroCm) (g' : List ℕ) where
       by : (a : Bool) → someBad k g (allCells k) ≡ a → (b : Bool) → someBad k' g' (allCells k') ≡ b
           → numberOf (firstOf (unsound (firstBad k g (allCells k)) a ∷ unsound (firstBad k' g' (allCells k')) b ∷ [])) ≡ 14
           → SmallestOfTwo k g k' g' (indexOf (firstOf (unsound (firstBad k g (allCells k)) a ∷ unsound (firstBad k' g' (allCells k')) b ∷ [])))
-      by true q b q' e = receiving (grid-smallest k g q)
-      by false q true q' e = other (grid-sound k g q) (grid-smallest k' g' q')
+      by true q b q' e = receiving (grid-searched k g .found q)
+      by false q true q' e = other (grid-searched k g .clear q) (grid-searched k' g' .found q')
       by false q false q' e = absurd (omega (arith, e))
 
   merge-keeps : (xs : List Cause) → noneIs 14 xs ≡ true → (v : Verdict) (ns : List ℕ) → Told v ns (xs ++ both) → Keeps (xs ++ both) (SmallestOfTwo k g k' g') v
@@ -272,40 +295,51 @@ module _ (k : MicroCm) (g : List ℕ) (k' : MicroCm) (g' : List ℕ) where
             rw (ap indexOf (t .is ∙ past .1)) (of-two (sym (ap numberOf (past .1)) ∙ told));
       }
 
+  merge-clears : (xs : List Cause) (v : Verdict) → v ≡ firstOf (xs ++ both) → v ≡ Accepted → AllSound k g × AllSound k' g'
+  merge-clears xs v is e =
+      let mine = unsound-denied xs (firstBad k g (allCells k)) (someBad k g (allCells k)) (badCells k' g' (allCells k') ∷ []) (sym is ∙ e) in
+      let behind = sym (first-fails (badCells k g (allCells k)) (badCells k' g' (allCells k') ∷ []) (mine .1)) ∙ both-behind in
+      (grid-searched k g .clear (mine .1), grid-searched k' g' .clear (unsound-denied [] _ _ [] behind .1))
+    where
+      both-behind : firstOf both ≡ Accepted
+      both-behind = both-accepted (firstOf xs) (firstOf both) (sym (first-append xs both) ∙ sym is ∙ e) .1
+
 -- EVERY CALL
 pub sketch-names : SketchNames
 unfolding noneIs paired updateCall updateAtCall advanceCall readCall readWithCall meanCall highestCall auditCall mergeCall
 sketch-names = record {
   update = λ k key g.
       let clock = tickOf (k .clock) in
-      cells-keep (MovingCell k clock (KeyCell k key)) k g (judgedCells k clock (keyCells k 0 key))
+      cells-judge (MovingCell k clock (KeyCell k key)) k g (judgedCells k clock (keyCells k 0 key))
       (sketchCauses k g ++ badKey k key ∷ isTimed (k .clock) ∷ []) [] refl refl
-      (λ past. item-smallest k key g _ past clock) _ _ (sketch-calls .update k key g);
+      (λ past. item-searched k key g _ past clock) _ _ (sketch-calls .update k key g);
   update-at = λ k key reading g.
       let clock = advanceOf (k .clock) reading in
-      cells-keep (MovingCell k clock (KeyCell k key)) k g (judgedCells k clock (keyCells k 0 key))
+      cells-judge (MovingCell k clock (KeyCell k key)) k g (judgedCells k clock (keyCells k 0 key))
       (sketchCauses k g ++ badKey k key ∷ isCounted (k .clock) ∷ []) [] refl refl
-      (λ past. item-smallest k key g _ past clock) _ _ (sketch-calls .update-at k key reading g);
+      (λ past. item-searched k key g _ past clock) _ _ (sketch-calls .update-at k key reading g);
   advance = λ k reading g.
       let clock = advanceOf (k .clock) reading in
-      cells-keep (MovingCell k clock NoCell) k g (judgedCells k clock []) (sketchCauses k g ++ isCounted (k .clock) ∷ []) [] refl refl
-      (λ past. smallest-of _ k g _ (moving-places k clock NoCell [] no-places)) _ _ (sketch-calls .advance k reading g);
+      cells-judge (MovingCell k clock NoCell) k g (judgedCells k clock []) (sketchCauses k g ++ isCounted (k .clock) ∷ []) [] refl refl
+      (λ past. searched-of _ k g _ (moving-places k clock NoCell [] no-places)) _ _ (sketch-calls .advance k reading g);
   read = λ k key g.
-      cells-keep (KeyCell k key) k g (keyCells k 0 key) (sketchCauses k g ++ badKey k key ∷ []) [] refl refl
-      (λ past. key-smallest k key g _ past) _ _ (sketch-calls .read k key g);
+      cells-judge (KeyCell k key) k g (keyCells k 0 key) (sketchCauses k g ++ badKey k key ∷ []) [] refl refl
+      (λ past. key-searched k key g _ past) _ _ (sketch-calls .read k key g);
   read-with = λ k key fraction g.
-      cells-keep (KeyCell k key) k g (keyCells k 0 key) (sketchCauses k g ++ badKey k key ∷ badFraction k fraction ∷ []) [] refl refl
-      (λ past. key-smallest k key g _ past) _ _ (sketch-calls .read-with k key fraction g);
+      cells-judge (KeyCell k key) k g (keyCells k 0 key) (sketchCauses k g ++ badKey k key ∷ badFraction k fraction ∷ []) [] refl refl
+      (λ past. key-searched k key g _ past) _ _ (sketch-calls .read-with k key fraction g);
   mean = λ k key g.
-      cells-keep (KeyCell k key) k g (keyCells k 0 key) (sketchCauses k g ++ badKey k key ∷ []) [] refl refl
-      (λ past. key-smallest k key g _ past) _ _ (sketch-calls .read k key g);
+      cells-judge (KeyCell k key) k g (keyCells k 0 key) (sketchCauses k g ++ badKey k key ∷ []) [] refl refl
+      (λ past. key-searched k key g _ past) _ _ (sketch-calls .read k key g);
   highest = λ k g.
-      cells-keep (GridCell k) k g (allCells k) (sketchCauses k g) [] refl refl (λ past. grid-smallest k g) _ _ (sketch-calls .highest k g);
-  merge = λ k g k' g'.
-      merge-keeps k g k' g' (paired (sketchCauses k g) (sketchCauses k' g') ++ otherShape k k' ∷ otherFrame k k' ∷ otherSubWindow k k' ∷ []) refl _ _
-      (sketch-calls .merge k g k' g');
+      cells-judge (GridCell k) k g (allCells k) (sketchCauses k g) [] refl refl (λ past. grid-searched k g) _ _ (sketch-calls .highest k g);
+  merge = λ k g k' g'. merge-keeps k g k' g' (asked k g k' g') refl _ _ (sketch-calls .merge k g k' g');
+  merge-clear = λ k g k' g' e. merge-clears k g k' g' (asked k g k' g') _ (sketch-calls .merge k g k' g' .is) e;
   audit = λ k g e. rw e (audit-prints k g);
 }
+  where
+    asked : MicroCm → List ℕ → MicroCm → List ℕ → List Cause
+    asked k g k' g' = paired (sketchCauses k g) (sketchCauses k' g') ++ otherShape k k' ∷ otherFrame k k' ∷ otherSubWindow k k' ∷ []
 
 -- ONE INDEX ALONE
 one : (Judged : ℕ → Type 0) (k : MicroCm) (g : List ℕ) (i j : ℕ) → SmallestUnsound Judged k g i → SmallestUnsound Judged k g j → i ≡ j

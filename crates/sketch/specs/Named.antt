@@ -7,7 +7,9 @@ use mathlib.Core.Path.{_≡_}
 use mathlib.Core.Bool.{true, false}
 use mathlib.Core.List.{List}
 use lib.Ieee.{Float}
+use Rattle.refusal.specs.declared.Verdict.{Verdict}
 use Rattle.refusal.specs.declared.Verdict.the-variants.{Accepted}
+use Rattle.refusal.specs.Causes.{Cause}
 use Rattle.refusal.specs.Named.{Keeps, OfOne}
 use Rattle.clock.specs.declared.SubWindowClock.{SubWindowClock}
 use Rattle.clock.specs.Clock.{tickOf, advanceOf}
@@ -50,6 +52,11 @@ pub record SmallestUnsound (Judged : ℕ → Type 0) (k : MicroCm) (g : List ℕ
 abbrev pub AllSound : MicroCm → List ℕ → Type 0
 AllSound k g = (i : ℕ) → GridCell k i → soundAt k g i ≡ true
 
+-- A CALL THAT JUDGES THESE CELLS: where it is accepted each of them is sound, and with 14 it names the smallest that is not
+pub record Judges (Judged : ℕ → Type 0) (k : MicroCm) (g : List ℕ) (causes : List Cause) (v : Verdict) : Type 0 where
+  pub clear : v ≡ Accepted → (i : ℕ) → Judged i → soundAt k g i ≡ true
+  pub keeps : Keeps causes (SmallestUnsound Judged k g) v
+
 -- IN A MERGE the other grid's is named only where every cell of the receiving one is sound
 pub data SmallestOfTwo (k : MicroCm) (g : List ℕ) (k' : MicroCm) (g' : List ℕ) (j : ℕ) : Type 0 where
   receiving : SmallestUnsound (GridCell k) k g j → SmallestOfTwo k g k' g' j
@@ -63,20 +70,19 @@ pub record Printout (k : MicroCm) (g : List ℕ) (f : Finding) : Type 0 where
 -- EVERY CALL on a sketch that judges cells, and the audit
 pub record SketchNames : Type 0 where
   pub update : (k : MicroCm) (key g : List ℕ)
-      → Keeps (updateCauses k key g) (SmallestUnsound (MovingCell k (tickOf (k .clock)) (KeyCell k key)) k g) (updateCall k key g .answer .verdict)
+      → Judges (MovingCell k (tickOf (k .clock)) (KeyCell k key)) k g (updateCauses k key g) (updateCall k key g .answer .verdict)
   pub update-at : (k : MicroCm) (key : List ℕ) (reading : ℕ) (g : List ℕ)
-      → Keeps (updateAtCauses k key reading g) (SmallestUnsound (MovingCell k (advanceOf (k .clock) reading) (KeyCell k key)) k g)
-      (updateAtCall k key reading g .answer .verdict)
+      → Judges (MovingCell k (advanceOf (k .clock) reading) (KeyCell k key)) k g (updateAtCauses k key reading g) (updateAtCall k key reading g .answer .verdict)
   pub advance : (k : MicroCm) (reading : ℕ) (g : List ℕ)
-      → Keeps (advanceCauses k reading g) (SmallestUnsound (MovingCell k (advanceOf (k .clock) reading) NoCell) k g)
-      (advanceCall k reading g .answer .verdict)
-  pub read : (k : MicroCm) (key g : List ℕ) → Keeps (readCauses k key g) (SmallestUnsound (KeyCell k key) k g) (readCall k key g .verdict)
+      → Judges (MovingCell k (advanceOf (k .clock) reading) NoCell) k g (advanceCauses k reading g) (advanceCall k reading g .answer .verdict)
+  pub read : (k : MicroCm) (key g : List ℕ) → Judges (KeyCell k key) k g (readCauses k key g) (readCall k key g .verdict)
   pub read-with : (k : MicroCm) (key : List ℕ) (fraction : Float) (g : List ℕ)
-      → Keeps (readWithCauses k key fraction g) (SmallestUnsound (KeyCell k key) k g) (readWithCall k key fraction g .verdict)
-  pub mean : (k : MicroCm) (key g : List ℕ) → Keeps (readCauses k key g) (SmallestUnsound (KeyCell k key) k g) (meanCall k key g .verdict)
-  pub highest : (k : MicroCm) (g : List ℕ) → Keeps (highestCauses k g) (SmallestUnsound (GridCell k) k g) (highestCall k g .verdict)
+      → Judges (KeyCell k key) k g (readWithCauses k key fraction g) (readWithCall k key fraction g .verdict)
+  pub mean : (k : MicroCm) (key g : List ℕ) → Judges (KeyCell k key) k g (readCauses k key g) (meanCall k key g .verdict)
+  pub highest : (k : MicroCm) (g : List ℕ) → Judges (GridCell k) k g (highestCauses k g) (highestCall k g .verdict)
   pub merge : (k : MicroCm) (g : List ℕ) (k' : MicroCm) (g' : List ℕ)
       → Keeps (mergeCauses k g k' g') (SmallestOfTwo k g k' g') (mergeCall k g k' g' .answer .verdict)
+  pub merge-clear : (k : MicroCm) (g : List ℕ) (k' : MicroCm) (g' : List ℕ) → mergeCall k g k' g' .answer .verdict ≡ Accepted → AllSound k g × AllSound k' g'
   pub audit : (k : MicroCm) (g : List ℕ) → auditCall k g .verdict ≡ Accepted → Printout k g (auditCall k g .audit)
 
 -- SO NO INDEX IS FREE: one alone is promised, whichever cells are judged, and two printouts of one grid agree

@@ -1,10 +1,12 @@
 -- Document 02, T-09, for the block store: a save judges the grid that it is lent, a load the stored cells.
 use Prim.Native.Nat.{ℕ}
+use mathlib.Core.Path.{_≡_}
 use mathlib.Core.List.{List}
+use Rattle.refusal.specs.declared.Verdict.the-variants.{Accepted}
 use Rattle.refusal.specs.Causes.{First}
-use Rattle.refusal.specs.Named.{Names, Keeps}
+use Rattle.refusal.specs.Named.{Names}
 use Rattle.sketch.specs.declared.MicroCm.{MicroCm}
-use Rattle.sketch.specs.Named.{GridCell, SmallestUnsound}
+use Rattle.sketch.specs.Named.{GridCell, SmallestUnsound, AllSound, Judges}
 use Rattle.store_header.specs.Header.{sketchIn}
 use Rattle.store.specs.Refusals.{headerPayload, gridIn, saveCall, loadCall}
 use Rattle.store.specs.Causes.{saveCauses, loadCauses}
@@ -15,6 +17,8 @@ SmallestStored store j = let k = sketchIn (headerPayload store) in SmallestUnsou
 
 -- BOTH CALLS; a load goes by its own order
 pub record StoreNames : Type 0 where
-  pub save : (k : MicroCm) (g store : List ℕ) → Keeps (saveCauses k g store) (SmallestUnsound (GridCell k) k g) (saveCall k g store .verdict)
+  pub save : (k : MicroCm) (g store : List ℕ) → Judges (GridCell k) k g (saveCauses k g store) (saveCall k g store .verdict)
   pub load : (g store : List ℕ) → First (loadCall g store .answer .verdict) (loadCauses g store)
   pub load-names : (g store : List ℕ) → Names (loadCall g store .answer .verdict) (SmallestStored store)
+  pub load-clear : (g store : List ℕ) → loadCall g store .answer .verdict ≡ Accepted
+      → let k = sketchIn (headerPayload store) in AllSound k (gridIn k store)
