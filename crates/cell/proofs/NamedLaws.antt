@@ -9,18 +9,25 @@ use Rattle.refusal.specs.declared.Verdict.{Verdict}
 use Rattle.refusal.specs.declared.Verdict.the-variants.{Accepted, Unsound}
 use Rattle.refusal.specs.Refusals.{numberOf, indexOf}
 use Rattle.refusal.specs.Causes.{Cause, unsound, firstOf, Told}
-use Rattle.refusal.specs.Named.{Keeps}
+use Rattle.refusal.specs.Named.{Keeps, OfOne, SameAnswer}
 use Rattle.refusal.proofs.VerdictLaws.{refused-never}
 use Rattle.refusal.proofs.GateLaws.{both-accepted}
 use Rattle.refusal.proofs.CauseLaws.{first-append, lowest-told}
-use Rattle.refusal.proofs.NamedLaws.{noneIs, told-behind, unsound-told, unsound-denied}
+use Rattle.refusal.proofs.NamedLaws.{noneIs, told-behind, unsound-told, unsound-denied, two-cores}
 use Rattle.rounding.specs.Refusals.{noState}
 use Rattle.cell.specs.declared.MicroParams.{MicroParams}
 use Rattle.cell.specs.Cell.{soundOf}
 use Rattle.cell.specs.Refusals.{badDepth, badCrossing, badCell, cellVerdict, zoomCall, shutterCall, pixelCall, insertCall, crossCall, mergeCall}
 use Rattle.cell.specs.Causes.{paramsCauses, cellCauses}
-use Rattle.cell.specs.Named.{UnsoundOfTwo, JudgesCell, CellNames}
+use Rattle.cell.specs.Named.{UnsoundCell, UnsoundOfTwo, JudgesCell, CellNames}
 use Rattle.cell.proofs.CauseTheorems.{cell-calls}
+
+-- ONE INDEX ALONE
+one : (p : MicroParams) (b : List ℕ) → OfOne (UnsoundCell p b)
+one p b i j e e' = e .0 ∙ sym (e' .0)
+
+one-of-two : (p : MicroParams) (b src : List ℕ) → OfOne (UnsoundOfTwo p b src)
+one-of-two p b src i j e e' = e .0 ∙ sym (e' .0)
 
 module _ (p : MicroParams) (b : List ℕ) (xs : List Cause) where
   -- ONE CELL, behind causes that are not 14
@@ -29,13 +36,21 @@ module _ (p : MicroParams) (b : List ℕ) (xs : List Cause) where
   one-judges before v ns t =
       record {
         clear = λ e. not-false _ (unsound-denied xs 0 (not (soundOf (p .t) (p .c) b)) [] (sym (t .is) ∙ e) .1);
-        keeps = record {
-          lowest = lowest-told v ns (xs ++ badCell p b ∷ []) t;
-          names = λ e.
-              let it = unsound-told xs 0 (not (soundOf (p .t) (p .c) b)) [] before refl (sym (ap numberOf (t .is)) ∙ e) in
-              (ap indexOf (t .is) ∙ it .2, not-true _ (it .1));
-        };
+        keeps = kept;
+        same = λ v' kept'. two-cores .same causes (UnsoundCell p b) (rw (t .numbered) (t .ordered)) (one p b) v v' kept kept';
       }
+    where
+      causes : List Cause
+      causes = xs ++ badCell p b ∷ []
+
+      kept : Keeps causes (UnsoundCell p b) v
+      kept =
+          record {
+            lowest = lowest-told v ns causes t;
+            names = λ e.
+                let it = unsound-told xs 0 (not (soundOf (p .t) (p .c) b)) [] before refl (sym (ap numberOf (t .is)) ∙ e) in
+                (ap indexOf (t .is) ∙ it .2, not-true _ (it .1));
+          }
 
   -- A MERGE'S TWO
   module _ (src : List ℕ) (v : Verdict) where
@@ -59,6 +74,10 @@ module _ (p : MicroParams) (b : List ℕ) (xs : List Cause) where
         by true true e = absurd (omega (arith, e))
         by true false e = (refl, refl)
         by false s' e = (refl, refl)
+
+    two-alike : noneIs 14 xs ≡ true → (ns : List ℕ) → Told v ns causes → (v' : Verdict) → Keeps causes (UnsoundOfTwo p b src) v' → SameAnswer v v'
+    two-alike before ns t v' kept =
+        two-cores .same causes (UnsoundOfTwo p b src) (rw (t .numbered) (t .ordered)) (one-of-two p b src) v v' (two-keeps before ns t) kept
 
     two-clear : v ≡ firstOf causes → v ≡ Accepted → (soundOf (p .t) (p .c) b ≡ true) × (soundOf (p .t) (p .c) src ≡ true)
     unfolding firstOf
@@ -88,7 +107,8 @@ cell-names = record {
   cross = λ p n crossed b σ.
       one-judges p b (paramsCauses p ++ noState σ ∷ badDepth p b ∷ badCrossing p n crossed ∷ []) refl _ _ (cell-calls .cross p n crossed b σ);
   merge = λ p n b src σ. two-keeps p b (pairCauses p b src σ) src _ refl _ (cell-calls .merge p b src σ);
+  merge-same = λ p n b src σ v kept. two-alike p b (pairCauses p b src σ) src _ refl _ (cell-calls .merge p b src σ) v kept;
   merge-clear = λ p n b src σ e. two-clear p b (pairCauses p b src σ) src _ (cell-calls .merge p b src σ .is) e;
-  one = λ p b i j e e'. e .0 ∙ sym (e' .0);
-  one-of-two = λ p b src i j e e'. e .0 ∙ sym (e' .0);
+  one = one;
+  one-of-two = one-of-two;
 }

@@ -6,7 +6,7 @@ use mathlib.Core.List.{List}
 use Rattle.refusal.specs.declared.Verdict.{Verdict}
 use Rattle.refusal.specs.declared.Verdict.the-variants.{Accepted}
 use Rattle.refusal.specs.Causes.{Cause}
-use Rattle.refusal.specs.Named.{Keeps, OfOne}
+use Rattle.refusal.specs.Named.{Keeps, OfOne, SameAnswer}
 use Rattle.cell.specs.declared.MicroParams.{MicroParams}
 use Rattle.cell.specs.Cell.{soundOf}
 use Rattle.cell.specs.Refusals.{cellVerdict, zoomCall, shutterCall, pixelCall, insertCall, crossCall, mergeCall}
@@ -20,10 +20,11 @@ UnsoundCell p b j = (j ≡ 0) × (soundOf (p .t) (p .c) b ≡ false)
 abbrev pub UnsoundOfTwo : MicroParams → List ℕ → List ℕ → ℕ → Type 0
 UnsoundOfTwo p b src j = (j ≡ 0) × (soundOf (p .t) (p .c) b && soundOf (p .t) (p .c) src ≡ false)
 
--- A CALL THAT JUDGES A CELL: where it is accepted the cell is sound
+-- A CALL THAT JUDGES A CELL: where it is accepted the cell is sound, and whatever core keeps the documents answers it so
 pub record JudgesCell (p : MicroParams) (b : List ℕ) (causes : List Cause) (v : Verdict) : Type 0 where
   pub clear : v ≡ Accepted → soundOf (p .t) (p .c) b ≡ true
   pub keeps : Keeps causes (UnsoundCell p b) v
+  pub same : (v' : Verdict) → Keeps causes (UnsoundCell p b) v' → SameAnswer v v'
 
 -- EVERY CALL that judges one
 pub record CellNames : Type 0 where
@@ -35,6 +36,8 @@ pub record CellNames : Type 0 where
   pub cross : (p : MicroParams) (n crossed : ℕ) (b : List ℕ) (σ : ℕ) → JudgesCell p b (crossCauses p n crossed b σ) (crossCall p n crossed b σ .answer .verdict)
   pub merge : (p : MicroParams) (n : ℕ) (b src : List ℕ) (σ : ℕ)
       → Keeps (mergeCauses p b src σ) (UnsoundOfTwo p b src) (mergeCall p n b src σ .answer .verdict)
+  pub merge-same : (p : MicroParams) (n : ℕ) (b src : List ℕ) (σ : ℕ) (v : Verdict)
+      → Keeps (mergeCauses p b src σ) (UnsoundOfTwo p b src) v → SameAnswer (mergeCall p n b src σ .answer .verdict) v
   pub merge-clear : (p : MicroParams) (n : ℕ) (b src : List ℕ) (σ : ℕ) → mergeCall p n b src σ .answer .verdict ≡ Accepted
       → (soundOf (p .t) (p .c) b ≡ true) × (soundOf (p .t) (p .c) src ≡ true)
   pub one : (p : MicroParams) (b : List ℕ) → OfOne (UnsoundCell p b)

@@ -12,10 +12,10 @@ use Rattle.refusal.specs.declared.Verdict.{Verdict}
 use Rattle.refusal.specs.declared.Verdict.the-variants.{Accepted}
 use Rattle.refusal.specs.Refusals.{numberOf, indexOf}
 use Rattle.refusal.specs.Causes.{Cause, unsound, firstOf, applies, paired, Told}
-use Rattle.refusal.specs.Named.{Names, Keeps}
+use Rattle.refusal.specs.Named.{Names, Keeps, SameAnswer}
 use Rattle.refusal.proofs.CauseLaws.{first-fails, first-append, none-applies, lowest-told}
 use Rattle.refusal.proofs.GateLaws.{both-accepted}
-use Rattle.refusal.proofs.NamedLaws.{noneIs, told-behind, unsound-told, unsound-denied}
+use Rattle.refusal.proofs.NamedLaws.{noneIs, told-behind, unsound-told, unsound-denied, two-cores}
 use Rattle.clock.specs.declared.SubWindowClock.{SubWindowClock}
 use Rattle.clock.specs.Clock.{nOf, tickOf, advanceOf}
 use Rattle.clock.specs.Refusals.{isTimed, isCounted}
@@ -209,6 +209,19 @@ module _ (k : MicroCm) (clock : SubWindowClock) (Within : ℕ → Type 0) where
           let all = grid-places k in
           record { each = λ i l. crossing moves (all .each i l); place = λ j w. all .place j (crossed moves j w); rises = all .rises }
 
+-- ONE INDEX ALONE
+one : (Judged : ℕ → Type 0) (k : MicroCm) (g : List ℕ) (i j : ℕ) → SmallestUnsound Judged k g i → SmallestUnsound Judged k g j → i ≡ j
+one Judged k g i j w w' = omega (arith, w .smallest j (w' .judged) (w' .unsound), w' .smallest i (w .judged) (w .unsound))
+
+never-both : (k : MicroCm) (g : List ℕ) (j : ℕ) → SmallestUnsound (GridCell k) k g j → AllSound k g → ⊥
+never-both k g j w all = true≢false (sym (all j (w .judged)) ∙ w .unsound)
+
+one-of-two : (k : MicroCm) (g : List ℕ) (k' : MicroCm) (g' : List ℕ) (i j : ℕ) → SmallestOfTwo k g k' g' i → SmallestOfTwo k g k' g' j → i ≡ j
+one-of-two k g k' g' i j (receiving w) (receiving w') = one (GridCell k) k g i j w w'
+one-of-two k g k' g' i j (receiving w) (other all w') = absurd (never-both k g i w all)
+one-of-two k g k' g' i j (other all w) (receiving w') = absurd (never-both k g j w' all)
+one-of-two k g k' g' i j (other all w) (other all' w') = one (GridCell k') k' g' i j w w'
+
 -- A CALL that judges these cells behind causes that are not 14
 module _ (Judged : ℕ → Type 0) (k : MicroCm) (g cells : List ℕ) (xs ys : List Cause) (before : noneIs 14 xs ≡ true) (behind : noneIs 14 ys ≡ true)
     (searched : firstOf xs ≡ Accepted → Searched Judged k g cells) (v : Verdict) (is : v ≡ firstOf (xs ++ badCells k g cells ∷ ys)) where
@@ -228,11 +241,15 @@ pub cells-judge : (Judged : ℕ → Type 0) (k : MicroCm) (g cells : List ℕ) (
 cells-judge Judged k g cells xs ys before behind searched v ns t =
     record {
       clear = cells-clear Judged k g cells xs ys before behind searched v (t .is);
-      keeps = record {
-        lowest = lowest-told v ns (xs ++ badCells k g cells ∷ ys) t;
-        names = cells-name Judged k g cells xs ys before behind searched v (t .is);
-      };
+      keeps = kept;
+      same = λ v' kept'. two-cores .same causes (SmallestUnsound Judged k g) (rw (t .numbered) (t .ordered)) (one Judged k g) v v' kept kept';
     }
+  where
+    causes : List Cause
+    causes = xs ++ badCells k g cells ∷ ys
+
+    kept : Keeps causes (SmallestUnsound Judged k g) v
+    kept = record { lowest = lowest-told v ns causes t; names = cells-name Judged k g cells xs ys before behind searched v (t .is) }
 
 -- a key that 7 let pass
 key-passed : (k : MicroCm) (key g : List ℕ) (rest : List Cause) → firstOf (sketchCauses k g ++ badKey k key ∷ rest) ≡ Accepted → keyFits k key ≡ true
@@ -295,6 +312,11 @@ module _ (k : MicroCm) (g : List ℕ) (k' : MicroCm) (g' : List ℕ) where
             rw (ap indexOf (t .is ∙ past .1)) (of-two (sym (ap numberOf (past .1)) ∙ told));
       }
 
+  merge-alike : (xs : List Cause) → noneIs 14 xs ≡ true → (v : Verdict) (ns : List ℕ) → Told v ns (xs ++ both) → (v' : Verdict)
+      → Keeps (xs ++ both) (SmallestOfTwo k g k' g') v' → SameAnswer v v'
+  merge-alike xs before v ns t v' kept =
+      two-cores .same (xs ++ both) (SmallestOfTwo k g k' g') (rw (t .numbered) (t .ordered)) (one-of-two k g k' g') v v' (merge-keeps xs before v ns t) kept
+
   merge-clears : (xs : List Cause) (v : Verdict) → v ≡ firstOf (xs ++ both) → v ≡ Accepted → AllSound k g × AllSound k' g'
   merge-clears xs v is e =
       let mine = unsound-denied xs (firstBad k g (allCells k)) (someBad k g (allCells k)) (badCells k' g' (allCells k') ∷ []) (sym is ∙ e) in
@@ -334,6 +356,7 @@ sketch-names = record {
   highest = λ k g.
       cells-judge (GridCell k) k g (allCells k) (sketchCauses k g) [] refl refl (λ past. grid-searched k g) _ _ (sketch-calls .highest k g);
   merge = λ k g k' g'. merge-keeps k g k' g' (asked k g k' g') refl _ _ (sketch-calls .merge k g k' g');
+  merge-same = λ k g k' g' v kept. merge-alike k g k' g' (asked k g k' g') refl _ _ (sketch-calls .merge k g k' g') v kept;
   merge-clear = λ k g k' g' e. merge-clears k g k' g' (asked k g k' g') _ (sketch-calls .merge k g k' g' .is) e;
   audit = λ k g e. rw e (audit-prints k g);
 }
@@ -341,19 +364,7 @@ sketch-names = record {
     asked : MicroCm → List ℕ → MicroCm → List ℕ → List Cause
     asked k g k' g' = paired (sketchCauses k g) (sketchCauses k' g') ++ otherShape k k' ∷ otherFrame k k' ∷ otherSubWindow k k' ∷ []
 
--- ONE INDEX ALONE
-one : (Judged : ℕ → Type 0) (k : MicroCm) (g : List ℕ) (i j : ℕ) → SmallestUnsound Judged k g i → SmallestUnsound Judged k g j → i ≡ j
-one Judged k g i j w w' = omega (arith, w .smallest j (w' .judged) (w' .unsound), w' .smallest i (w .judged) (w .unsound))
-
-never-both : (k : MicroCm) (g : List ℕ) (j : ℕ) → SmallestUnsound (GridCell k) k g j → AllSound k g → ⊥
-never-both k g j w all = true≢false (sym (all j (w .judged)) ∙ w .unsound)
-
-one-of-two : (k : MicroCm) (g : List ℕ) (k' : MicroCm) (g' : List ℕ) (i j : ℕ) → SmallestOfTwo k g k' g' i → SmallestOfTwo k g k' g' j → i ≡ j
-one-of-two k g k' g' i j (receiving w) (receiving w') = one (GridCell k) k g i j w w'
-one-of-two k g k' g' i j (receiving w) (other all w') = absurd (never-both k g i w all)
-one-of-two k g k' g' i j (other all w) (receiving w') = absurd (never-both k g j w' all)
-one-of-two k g k' g' i j (other all w) (other all' w') = one (GridCell k') k' g' i j w w'
-
+-- TWO PRINTOUTS of one grid
 same-printout : (k : MicroCm) (g : List ℕ) (f f' : Finding) → Printout k g f → Printout k g f' → f ≡ f'
 same-printout k g finding.Sound finding.Sound p p' = refl
 same-printout k g finding.Sound (finding.Unsound j) p p' = absurd (never-both k g j (p' .named j refl) (p .clear refl))

@@ -10,7 +10,7 @@ use lib.Ieee.{Float}
 use Rattle.refusal.specs.declared.Verdict.{Verdict}
 use Rattle.refusal.specs.declared.Verdict.the-variants.{Accepted}
 use Rattle.refusal.specs.Causes.{Cause}
-use Rattle.refusal.specs.Named.{Keeps, OfOne}
+use Rattle.refusal.specs.Named.{Keeps, OfOne, SameAnswer}
 use Rattle.clock.specs.declared.SubWindowClock.{SubWindowClock}
 use Rattle.clock.specs.Clock.{tickOf, advanceOf}
 use Rattle.sketch.specs.declared.MicroCm.{MicroCm}
@@ -52,10 +52,12 @@ pub record SmallestUnsound (Judged : ℕ → Type 0) (k : MicroCm) (g : List ℕ
 abbrev pub AllSound : MicroCm → List ℕ → Type 0
 AllSound k g = (i : ℕ) → GridCell k i → soundAt k g i ≡ true
 
--- A CALL THAT JUDGES THESE CELLS: where it is accepted each of them is sound, and with 14 it names the smallest that is not
+-- A CALL THAT JUDGES THESE CELLS: where it is accepted each of them is sound, with 14 it names the smallest that is not, and whatever core keeps the
+-- documents answers it so
 pub record Judges (Judged : ℕ → Type 0) (k : MicroCm) (g : List ℕ) (causes : List Cause) (v : Verdict) : Type 0 where
   pub clear : v ≡ Accepted → (i : ℕ) → Judged i → soundAt k g i ≡ true
   pub keeps : Keeps causes (SmallestUnsound Judged k g) v
+  pub same : (v' : Verdict) → Keeps causes (SmallestUnsound Judged k g) v' → SameAnswer v v'
 
 -- IN A MERGE the other grid's is named only where every cell of the receiving one is sound
 pub data SmallestOfTwo (k : MicroCm) (g : List ℕ) (k' : MicroCm) (g' : List ℕ) (j : ℕ) : Type 0 where
@@ -82,6 +84,8 @@ pub record SketchNames : Type 0 where
   pub highest : (k : MicroCm) (g : List ℕ) → Judges (GridCell k) k g (highestCauses k g) (highestCall k g .verdict)
   pub merge : (k : MicroCm) (g : List ℕ) (k' : MicroCm) (g' : List ℕ)
       → Keeps (mergeCauses k g k' g') (SmallestOfTwo k g k' g') (mergeCall k g k' g' .answer .verdict)
+  pub merge-same : (k : MicroCm) (g : List ℕ) (k' : MicroCm) (g' : List ℕ) (v : Verdict)
+      → Keeps (mergeCauses k g k' g') (SmallestOfTwo k g k' g') v → SameAnswer (mergeCall k g k' g' .answer .verdict) v
   pub merge-clear : (k : MicroCm) (g : List ℕ) (k' : MicroCm) (g' : List ℕ) → mergeCall k g k' g' .answer .verdict ≡ Accepted → AllSound k g × AllSound k' g'
   pub audit : (k : MicroCm) (g : List ℕ) → auditCall k g .verdict ≡ Accepted → Printout k g (auditCall k g .audit)
 

@@ -2,6 +2,7 @@
 use Prim.Native.Nat.{ℕ}
 use mathlib.Core.Path.{_≡_}
 use mathlib.Core.List.{List}
+use Rattle.refusal.specs.declared.Verdict.{Verdict}
 use Rattle.refusal.specs.declared.Verdict.the-variants.{Accepted}
 use Rattle.refusal.specs.Causes.{First}
 use Rattle.refusal.specs.Named.{Names}
@@ -19,6 +20,7 @@ SmallestStored store j = let k = sketchIn (headerPayload store) in SmallestUnsou
 pub record StoreNames : Type 0 where
   pub save : (k : MicroCm) (g store : List ℕ) → Judges (GridCell k) k g (saveCauses k g store) (saveCall k g store .verdict)
   pub load : (g store : List ℕ) → First (loadCall g store .answer .verdict) (loadCauses g store)
+  pub load-same : (g store : List ℕ) (v : Verdict) → First v (loadCauses g store) → v ≡ loadCall g store .answer .verdict
   pub load-names : (g store : List ℕ) → Names (loadCall g store .answer .verdict) (SmallestStored store)
   pub load-clear : (g store : List ℕ) → loadCall g store .answer .verdict ≡ Accepted
       → let k = sketchIn (headerPayload store) in AllSound k (gridIn k store)
