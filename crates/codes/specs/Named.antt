@@ -1,4 +1,4 @@
--- Document 02, T-09, for an asking: T-01 judges by 14 "over the cells of all the codes".
+-- Document 02, T-09, for an asking, whose keys are its codes: the cells judged are those of all of them.
 use Prim.Native.Nat.{ℕ, _<_}
 use mathlib.Core.Path.{_≡_}
 use mathlib.Core.List.{List}

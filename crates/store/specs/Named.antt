@@ -4,8 +4,9 @@ use mathlib.Core.Path.{_≡_}
 use mathlib.Core.List.{List}
 use Rattle.refusal.specs.declared.Verdict.{Verdict}
 use Rattle.refusal.specs.declared.Verdict.the-variants.{Accepted}
+use Rattle.refusal.specs.Refusals.{numberOf}
 use Rattle.refusal.specs.Causes.{First}
-use Rattle.refusal.specs.Named.{Names}
+use Rattle.refusal.specs.Named.{Names, SameAnswer}
 use Rattle.sketch.specs.declared.MicroCm.{MicroCm}
 use Rattle.sketch.specs.Named.{GridCell, SmallestUnsound, AllSound, Judges}
 use Rattle.store_header.specs.Header.{sketchIn}
@@ -20,7 +21,9 @@ SmallestStored store j = let k = sketchIn (headerPayload store) in SmallestUnsou
 pub record StoreNames : Type 0 where
   pub save : (k : MicroCm) (g store : List ℕ) → Judges (GridCell k) k g (saveCauses k g store) (saveCall k g store .verdict)
   pub load : (g store : List ℕ) → First (loadCall g store .answer .verdict) (loadCauses g store)
-  pub load-same : (g store : List ℕ) (v : Verdict) → First v (loadCauses g store) → v ≡ loadCall g store .answer .verdict
+  -- another core's answer v: its number is that of the first cause that holds, w, and with 14 its index is such a one
+  pub load-same : (g store : List ℕ) (v w : Verdict) → First w (loadCauses g store) → numberOf v ≡ numberOf w → Names v (SmallestStored store)
+      → SameAnswer v (loadCall g store .answer .verdict)
   pub load-names : (g store : List ℕ) → Names (loadCall g store .answer .verdict) (SmallestStored store)
   pub load-clear : (g store : List ℕ) → loadCall g store .answer .verdict ≡ Accepted
       → let k = sketchIn (headerPayload store) in AllSound k (gridIn k store)
