@@ -52,8 +52,11 @@
 extern "C" {
 #endif
 
-/* The version of this header: 10,000 x 2. microscope_version gives that of the library. */
-#define MICROSCOPE_VERSION 20000
+/*
+ * The version of this header: 10,000 x 2 for the form of the calls, and 1 as what a call answers has changed once in this
+ * form: microscope_mean. microscope_version gives that of the library.
+ */
+#define MICROSCOPE_VERSION 20001
 
 /* The numbers. */
 enum {
@@ -280,7 +283,11 @@ uint64_t microscope_estimate_with(const microscope_sketch *sketch, const uint32_
                                   const uint8_t *grid, size_t grid_bytes, microscope_figures *figures,
                                   microscope_items *items);
 
-/* Items a sub-window: `under` divided by t, rounded down. */
+/*
+ * Items a sub-window: `under` divided by the sub-windows begun, rounded down. By sub-window n these are n + 1, and from
+ * n = t - 1 on t: just after the start, when only a few exist, the mean is over those. (Up to version 20000 it was over t
+ * from the start.)
+ */
 uint64_t microscope_mean(const microscope_sketch *sketch, const uint32_t *key, size_t columns, const uint8_t *grid,
                          size_t grid_bytes, microscope_value *mean);
 

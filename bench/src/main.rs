@@ -252,6 +252,17 @@ fn alone(shape: Shape) {
     told("load", shape, timed(1, || clocked(|| ours.load(&store)), None), "");
 }
 
+/// Beside as many readings of ours: the Rust has no mean.
+fn means(what: &str, ours: &Ours, shape: Shape) {
+    let keys = shape.keys(Keys::Skewed, 1_000);
+    let figures = timed(
+        keys.len() as u64,
+        || clocked(|| keys.iter().for_each(|key| { black_box(ours.mean(&key.columns)); })),
+        Some(&mut || clocked(|| keys.iter().for_each(|key| { black_box(ours.estimate(&key.columns)); }))),
+    );
+    told(what, shape, figures, "");
+}
+
 /// So many codes, every other one at its limit; set, and with their keys.
 fn watched(ours: &Ours, shape: Shape, count: u64) -> (Codes, Vec<Key>) {
     let keys: Vec<Key> = (0..count).map(|seed| shape.key(seed)).collect();
@@ -288,11 +299,13 @@ fn askings(what: &str, ours: &Ours, shape: Shape, count: u64, aim: &str) {
     told(what, shape, figures, aim);
 }
 
-/// Watched codes in a table of their own.
-fn codes(shape: Shape) {
+/// What is held to readings of ours, in a table of its own.
+fn beside_readings(shape: Shape) {
     println!("\n| call | grid | ours, ns | as many readings of ours, ns | ratio | aim |");
     println!("|---|---|---|---|---|---|");
     let (ours, _) = aged(shape);
+    means("mean", &ours, shape);
+    means("mean, just after the start", &shape.ours(false), shape);
     settings("setting 64 codes", &ours, shape, 64);
     askings("asking, one code", &ours, shape, 1, "");
     askings("asking, 64 codes", &ours, shape, 64, "1.1");
@@ -326,5 +339,5 @@ fn main() {
         merges("merge", shape, "");
         alone(shape);
     }
-    codes(shape);
+    beside_readings(shape);
 }

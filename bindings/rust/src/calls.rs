@@ -325,7 +325,7 @@ pub fn estimate_with(
     Refusal::unless_accepted(number, items.index)
 }
 
-/// Items a sub-window.
+/// Items a sub-window: Under divided by the sub-windows begun, which are the lesser of n + 1 and t; rounded down.
 pub fn mean(sketch: &Sketch, key: &[u32], grid: &[u8], mean: &mut Value) -> Result<(), Refusal> {
     // SAFETY: key and grid come with their own lengths; mean is borrowed exclusively.
     let number = unsafe { microscope_mean(sketch, key.as_ptr(), key.len(), grid.as_ptr(), grid.len(), mean) };

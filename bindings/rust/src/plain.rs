@@ -6,7 +6,7 @@ use core::mem::{offset_of, size_of};
 
 /// The version of the library that these declarations go with; [`version`](crate::calls::version) gives that of the one
 /// that was linked.
-pub const VERSION: u64 = 20_000;
+pub const VERSION: u64 = 20_001;
 
 /// The kind of a clock whose sub-windows are a number of items.
 pub const ITEMS: u64 = 0;
@@ -173,7 +173,7 @@ pub struct Items {
 /// }
 /// let mut mean = Value::default();
 /// calls::mean(&sketch, &[17, 5], &grid, &mut mean)?;
-/// assert_eq!(mean.value, 1); // 12 items by 12 sub-windows
+/// assert_eq!(mean.value, 12); // 12 items, and of 12 sub-windows the first has begun
 /// # Ok::<(), microscope::Refusal>(())
 /// ```
 #[repr(C)]

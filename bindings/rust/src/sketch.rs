@@ -154,7 +154,21 @@ impl MicroCm {
         read(|figures, items| calls::estimate_with(&self.sketch, key, fraction, &self.grid, figures, items))
     }
 
-    /// Items a sub-window: Under divided by t, rounded down.
+    /// Items a sub-window: Under divided by the sub-windows begun, which are the lesser of n + 1 and t; rounded down.
+    ///
+    /// ```
+    /// use microscope::{MicroCm, MicroParams, SubWindowClock};
+    ///
+    /// let clock = SubWindowClock::time_based(10, 0);
+    /// let mut counter = MicroCm::with_dimensions(2, 64, MicroParams { t: 12, c: 2 }, clock, 1)?;
+    /// counter.update_at(&[17, 5], 3)?;
+    /// assert_eq!(counter.mean(&[17, 5])?, 1); // right after the start, when the first of twelve sub-windows has begun
+    /// counter.update_at(&[17, 5], 12)?;
+    /// assert_eq!(counter.mean(&[17, 5])?, 1); // two items by two
+    /// counter.advance_to(29)?;
+    /// assert_eq!(counter.mean(&[17, 5])?, 0); // two items by three
+    /// # Ok::<(), microscope::Refusal>(())
+    /// ```
     pub fn mean(&self, key: &[u32]) -> Result<u64, Error> {
         let mut mean = Value::default();
         calls::mean(&self.sketch, key, &self.grid, &mut mean)?;

@@ -39,6 +39,11 @@ unfolding total
 total-le zero m f h = omega (arith, h 0 (le-refl 0))
 total-le (suc k) m f h = omega (arith, total-le k m f (earlier k h), last k h)
 
+pub total-ge : (k m : ℕ) (f : ℕ → ℕ) → ((i : ℕ) → i ≤ k → m ≤ f i) → (k + 1) * m ≤ total k f
+unfolding total
+total-ge zero m f h = omega (arith, h 0 (le-refl 0))
+total-ge (suc k) m f h = omega (arith, total-ge k m f (earlier k h), last k h)
+
 pub least-within : (k e : ℕ) (f g : ℕ → ℕ) → ((i : ℕ) → i ≤ k → Within e (f i) (g i)) → Within e (least k f) (least k g)
 unfolding least
 least-within zero e f g h = h 0 (le-refl 0)

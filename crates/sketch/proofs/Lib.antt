@@ -14,6 +14,8 @@ pub mod AcceptanceLaws
 pub mod NamedLaws
 pub mod NamedWorked
 pub mod ReadingLaws
+pub mod MeanLaws
+pub mod MeanWorked
 pub mod JudgeCases
 pub mod JudgeLoops
 pub mod GridLaws

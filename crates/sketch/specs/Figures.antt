@@ -58,9 +58,13 @@ unfoldable pub linearOf : MicroCm → List ℕ → List ℕ → Float → Float
 linearOf k g key fraction =
     cond (hasOldest k) (add binary64 (figure (underOf k g key)) (mul binary64 fraction (figure (oldestOf k g key)))) (figure (underOf k g key))
 
--- MEAN: Under divided by t, rounded down
+-- THE SUB-WINDOWS BEGUN (document 02, T-08): the lesser of n + 1 and t
+abbrev pub begunOf : MicroCm → ℕ
+begunOf k = min (nOf (k .clock) + 1) (k .params .t)
+
+-- MEAN (document 02, T-08): Under divided by the sub-windows begun, rounded down
 abbrev pub meanOf : MicroCm → List ℕ → List ℕ → ℕ
-meanOf k g key = underOf k g key / k .params .t
+meanOf k g key = underOf k g key / begunOf k
 
 -- ONE READING with a fraction: every Over and Under figure is below 2 ^ 53, so its f64 is exact
 abbrev pub oneReading : MicroCm → List ℕ → List ℕ → Float → Reading

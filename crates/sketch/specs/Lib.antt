@@ -5,7 +5,9 @@ pub mod Audit
 pub mod Refusals
 pub mod Causes
 pub mod Acceptance
+pub mod Mean
 pub mod Named
 pub mod NamedExamples
 pub mod BenchSheet
+pub mod MeanExamples
 pub mod Workers

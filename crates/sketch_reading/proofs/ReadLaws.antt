@@ -1,5 +1,5 @@
 -- The ways through the calls that read a key: each way out is what its definition gives there. Assumes nothing.
-use Prim.Native.Nat.{ℕ, _-_, _/_, _≤_, _<_}
+use Prim.Native.Nat.{ℕ, _/_, _≤_, _<_}
 use mathlib.Core.Path.{_≡_, refl, sym, ap, _∙_}
 use mathlib.Core.Bool.{Bool, true, false, not, _&&_}
 use mathlib.Core.List.{List}
@@ -17,7 +17,7 @@ use Rattle.clock.specs.Clock.{nOf, fractionOf}
 use Rattle.clock.specs.Workers.{GoodLength}
 use Rattle.sketch.specs.declared.MicroCm.{MicroCm}
 use Rattle.sketch.specs.declared.ReadingAnswer.{ReadingAnswer}
-use Rattle.sketch.specs.Figures.{underOf, overOf, hasOldest, oneReading}
+use Rattle.sketch.specs.Figures.{underOf, overOf, begunOf, meanOf, hasOldest, oneReading}
 use Rattle.sketch.specs.Refusals.{keyFits, refuseSketch, refuseKey, readVerdict, readWithVerdict, noReading, readingAnswer, readCall, readWithCall, meanCall}
 use Rattle.sketch.specs.Workers.{Ready, Readable}
 use Rattle.sketch.proofs.ReadyLaws.{keyed-ready}
@@ -87,6 +87,11 @@ module _ (k : MicroCm) (key g : List ℕ) where
   readable-with : (fraction : Float) → readWithVerdict k key fraction g ≡ Accepted → Readable k key g
   readable-with fraction = readable-then (fractionThen k key g fraction) (λ e. not-refused 13 (hasOldest k && not (inUnit fraction)) (cells k key g) e .1)
 
+-- THE MEAN
+pub mean-made : (k : MicroCm) (key g : List ℕ) (under begun mean : ℕ) → under ≡ underOf k g key → begun ≡ begunOf k → mean ≡ under / begun
+    → mean ≡ meanOf k g key
+mean-made k key g under begun mean eu eb em = em ∙ rw (eu, eb) refl
+
 -- THE ANSWERS
 module _ (k : MicroCm) (key g : List ℕ) (v : Verdict) (ok : Bool) (asked : ok ≡ isAccepted v) where
   module _ (fraction : Float) where
@@ -113,7 +118,7 @@ module _ (k : MicroCm) (key g : List ℕ) (v : Verdict) (ok : Bool) (asked : ok 
     pub mean-refused : not ok ≡ true → record { verdict = v; mean = 0 } ≡ meanCall k key g
     unfolding meanCall
     mean-refused h =
-        rw (← ev) (ap (λ (m : ℕ). record { verdict = v; mean = m }) (sym (refused-leaves v (underOf k g key / k .params .t) 0 (turned-back v ok asked h))))
+        rw (← ev) (ap (λ (m : ℕ). record { verdict = v; mean = m }) (sym (refused-leaves v (meanOf k g key) 0 (turned-back v ok asked h))))
 
     module _ (h : not ok ≡ false) where
       pub read-readable : Readable k key g
@@ -126,12 +131,9 @@ module _ (k : MicroCm) (key g : List ℕ) (v : Verdict) (ok : Bool) (asked : ok 
           → r ≡ record { verdict = v; reading = e .reading; over = e .over; under = e .under } → r ≡ readCall k key g
       read-told fraction e r ef ee er = all-told (fractionOf (k .clock)) r e (ee ∙ rw ef) er h ∙ same-call
 
-      pub mean-some : 0 < k .params .t
-      mean-some = omega (arith, read-readable .ready .fit .t-low)
-
-      pub mean-told : (under : ℕ) → under ≡ underOf k g key → record { verdict = v; mean = under / k .params .t } ≡ meanCall k key g
+      pub mean-told : (mean : ℕ) → mean ≡ meanOf k g key → record { verdict = v; mean = mean } ≡ meanCall k key g
       unfolding meanCall
-      mean-told under eu = rw (← ev, let-pass v ok asked h, eu) refl
+      mean-told mean em = rw (← ev, let-pass v ok asked h, em) refl
 
   -- by a given one
   module _ (fraction : Float) (ev : v ≡ readWithVerdict k key fraction g) where

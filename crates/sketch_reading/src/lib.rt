@@ -1,5 +1,6 @@
 // Document 01, "Figures": what a sketch says of a key.
 mod judge;
+mod worker;
 
 use refusal::Verdict;
 use sketch::MeanAnswer;
@@ -68,7 +69,7 @@ pub fn estimate_with(sketch: MicroCm, key: &[u32], fraction: f64, grid: &[u8]) -
     )
 }
 
-// Under for each of the t sub-windows that it covers, rounded down.
+// The mean of a key: Under for each sub-window begun.
 pub fn mean(sketch: MicroCm, key: &[u32], grid: &[u8]) -> MeanAnswer
     ensures { λ r. ⌜ r ≡ meanCall sketch (now (key .entry)) (now (grid .entry)) ⌝ }
 {
@@ -76,7 +77,8 @@ pub fn mean(sketch: MicroCm, key: &[u32], grid: &[u8]) -> MeanAnswer
     if !verdict.accepted() {
         return MeanAnswer { verdict, mean: 0 };
     }
-    let params = sketch.params;
-    let mean = sketch_reading_figures::worker::under(sketch, grid, key) / params.t as u64;
-    MeanAnswer { verdict, mean }
+    MeanAnswer {
+        verdict,
+        mean: worker::mean(sketch, grid, key),
+    }
 }

@@ -21,6 +21,7 @@ mod hits;
 mod junk;
 mod layout;
 mod load_order;
+mod means;
 mod named;
 mod numbers;
 mod pair;
@@ -144,9 +145,10 @@ fn compare(run: &Run) -> Score {
     while score::calls() < run.calls && score.differences < ENOUGH {
         score.count("random", story(&mut dice));
     }
-    let (line, outcome) = named::told();
-    println!("{line}");
-    score.count("cells named", outcome);
+    for (what, (line, outcome)) in [("cells named", named::told()), ("means", means::told())] {
+        println!("{line}");
+        score.count(what, outcome);
+    }
     for call in hits::CALLS {
         let (line, outcome) = hits::told(call);
         println!("{line}");

@@ -7,8 +7,9 @@ use crate::pair::Pair;
 use crate::score::{Outcome, called, number, same, same_number};
 use crate::stories::FRACTIONS;
 
-pub const ALL: [(&str, fn() -> Outcome); 6] = [
+pub const ALL: [(&str, fn() -> Outcome); 7] = [
     ("bench sheet", bench_sheet),
+    ("means from key-on", means),
     ("edges of the clock", clock_edges),
     ("fractions", fractions),
     ("jumps", jumps),
@@ -56,6 +57,37 @@ fn bench_sheet() -> Outcome {
     )?;
     same("mean", pair.ours.mean(&[1]), Ok(1))?;
     pair.read(&[0])
+}
+
+/// Document 02's T-08: the item at n = 0 that it tells of, the end of the first window, n = t, and the last n of all.
+fn means() -> Outcome {
+    let settings = Settings {
+        t: 12,
+        length: 1,
+        epoch: 0,
+        ..TIMED
+    };
+    let mut pair = Pair::fresh(settings)?;
+    let key = [1, 2];
+    let each = [
+        (0, 1, 1),         // document 01 gave 0
+        (0, 9, 10),        // 10 by 1
+        (1, 0, 5),         // 10 by 2
+        (2, 0, 3),         // 10 by 3
+        (10, 1, 1),        // 11 by 11
+        (11, 12, 1),       // 23 by 12
+        (12, 11, 2),       // 24 by 12: the first 10 are in Over alone
+        (u64::MAX, 25, 2), // 25 by 12
+    ];
+    for (n, items, right) in each {
+        pair.advance_to(n)?;
+        for _ in 0..items {
+            pair.update_at(&key, n)?;
+        }
+        same("mean", called(pair.ours.mean(&key)), Ok(right))?;
+        pair.read(&key)?;
+    }
+    Ok(())
 }
 
 /// seen at the top of its range, now before the epoch and at the top.

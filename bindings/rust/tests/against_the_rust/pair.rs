@@ -3,6 +3,7 @@
 use crate::held;
 use crate::judge::{self, Settings};
 use crate::layout;
+use crate::means;
 use crate::score::{Outcome, called, number, same, same_bytes, same_number, unchanged_one};
 use crate::stores;
 use microscope::{MicroCm, MicroParams, Refusal, SubWindowClock};
@@ -172,8 +173,10 @@ impl Pair {
             return same_number("the mean's number", number(&mean), 7);
         }
         let reading = answer.map_err(|why| why.to_string())?;
-        self.figures(&reading, judge::read(&self.theirs, &narrow(key)))?;
-        same("mean", mean, Ok(reading.under_items / self.settings.t as u64))
+        let right = judge::read(&self.theirs, &narrow(key));
+        self.figures(&reading, right)?;
+        let n = self.theirs.sub_window();
+        same("mean", mean, Ok(means::reckoned(right, n, self.settings.t as u64)))
     }
 
     pub fn read_with(&self, key: &[u32], fraction: f64) -> Outcome {

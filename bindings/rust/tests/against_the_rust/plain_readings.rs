@@ -5,6 +5,7 @@ use crate::hits;
 use crate::judge;
 use crate::junk;
 use crate::load_order;
+use crate::means;
 use crate::named::{self, names};
 use crate::numbers;
 use crate::pair::narrow;
@@ -94,10 +95,7 @@ pub fn mean(held: &Held, key: &[u32]) -> Told {
         right,
         || named::of_key(held, key),
         |lent, mean| calls::mean(&lent.sketch, &lent_key, &lent.grid, mean),
-        |theirs| {
-            let [_, under, ..] = judge::read(theirs, &narrow(key));
-            f64::from_bits(under) as u64 / held.sketch.t
-        },
+        |theirs| means::reckoned(judge::read(theirs, &narrow(key)), theirs.sub_window(), held.sketch.t),
     )?;
     unchanged("the key lent", &lent_key, key)?;
     Ok(told)
