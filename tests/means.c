@@ -154,18 +154,25 @@ static void at(uint64_t n, uint64_t items, uint64_t strangers) {
     compare(n);
 }
 
+/* The two are chosen one after the other: between arguments of one call C has no order. */
+static void some_at(uint64_t n) {
+    uint64_t items = chosen(10);
+    uint64_t strangers = chosen(10);
+    at(n, items, strangers);
+}
+
 /* Each n, past the second window's end. */
 static void each_n(uint64_t t) {
     start(t, MICROSCOPE_TIME, 1);
     for (uint64_t n = 0; n <= 2 * t + 2; n++) {
-        at(n, chosen(10), chosen(10));
+        some_at(n);
     }
 }
 
 static void jumps(uint64_t t) {
     start(t, MICROSCOPE_TIME, 1);
     for (uint64_t n = 0; n <= 20 * t; n += 1 + chosen(t + 2)) {
-        at(n, chosen(10), chosen(10));
+        some_at(n);
     }
 }
 
@@ -186,7 +193,7 @@ static void by_items(uint64_t t, uint64_t length) {
 static void last_n(uint64_t t) {
     start(t, MICROSCOPE_TIME, 1);
     for (uint64_t before = t + 2; before > 0; before--) {
-        at(LAST - before, chosen(10), chosen(10));
+        some_at(LAST - before);
     }
     at(LAST, 9, 0);
 }
