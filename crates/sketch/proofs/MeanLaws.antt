@@ -67,8 +67,8 @@ module _ (k : MicroCm) (key g : List ℕ) where
     unfolding readCall
     under-told = rw read-accepted refl
 
-pub mean-says : MeanMeaning
-mean-says k key g e =
+accepted-says : (k : MicroCm) (key g : List ℕ) → meanCall k key g .verdict ≡ Accepted → MeanSays k key g
+accepted-says k key g e =
     let low = accepted-window k key g (read-accepted k key g e) in
     let some = begun-some k key g low in
     let added = under-added k key g low in
@@ -81,9 +81,11 @@ mean-says k key g e =
       full = λ h. omega (arith, h);
       some = some;
       added = under-is ∙ added;
-      judged = same-judge k key g;
       low = rw (mean-is, under-is) (div-mul-le-self (underOf k g key) (begunOf k));
       high = rw (mean-is, under-is) (one-more (underOf k g key) (begunOf k) some);
       not-below = λ m h. rw by-terms (fewest terms (begunOf k) some m h);
       not-above = λ m h. rw by-terms (most terms (begunOf k) some m h);
     }
+
+pub mean-says : MeanMeaning
+mean-says = record { judged = same-judge; accepted = accepted-says }

@@ -10,6 +10,7 @@ use Rattle.sketch.specs.declared.MicroCm.{MicroCm}
 use Rattle.sketch.specs.Figures.{leastBack, begunOf}
 use Rattle.sketch.specs.Refusals.{readCall, meanCall}
 
+-- what a mean says where it is accepted
 pub record MeanSays (k : MicroCm) (key g : List ℕ) : Type 0 where
   -- all sub-windows since the start are begun, until there are t; from then on it is t of them, as in document 01
   pub young : nOf (k .clock) < k .params .t → begunOf k ≡ nOf (k .clock) + 1
@@ -17,8 +18,6 @@ pub record MeanSays (k : MicroCm) (key g : List ℕ) : Type 0 where
   -- they are those that Under adds up: the present one, 0 back, and so on
   pub some : 1 ≤ begunOf k
   pub added : readCall k key g .under ≡ total (begunOf k - 1) (leastBack k g key)
-  -- the mean is refused by what a reading is refused by
-  pub judged : meanCall k key g .verdict ≡ readCall k key g .verdict
   -- so many of the items that a reading tells as Under for each of them, and not one more for each
   pub low : meanCall k key g .mean * begunOf k ≤ readCall k key g .under
   pub high : readCall k key g .under < (meanCall k key g .mean + 1) * begunOf k
@@ -26,6 +25,7 @@ pub record MeanSays (k : MicroCm) (key g : List ℕ) : Type 0 where
   pub not-below : (m : ℕ) → ((back : ℕ) → back < begunOf k → m ≤ leastBack k g key back) → m ≤ meanCall k key g .mean
   pub not-above : (m : ℕ) → ((back : ℕ) → back < begunOf k → leastBack k g key back ≤ m) → meanCall k key g .mean ≤ m
 
--- of every mean that is accepted
-abbrev pub MeanMeaning : Type 0
-MeanMeaning = (k : MicroCm) (key g : List ℕ) → meanCall k key g .verdict ≡ Accepted → MeanSays k key g
+-- of every sketch, key and grid: a mean is refused by what a reading is refused by
+pub record MeanMeaning : Type 0 where
+  pub judged : (k : MicroCm) (key g : List ℕ) → meanCall k key g .verdict ≡ readCall k key g .verdict
+  pub accepted : (k : MicroCm) (key g : List ℕ) → meanCall k key g .verdict ≡ Accepted → MeanSays k key g

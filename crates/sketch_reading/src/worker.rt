@@ -19,6 +19,7 @@ fn begun(sketch: MicroCm) -> u64
     t
 }
 
+// By itself, so that an edit can round otherwise and break nothing but this contract.
 fn rounded_down(items: u64, parts: u64) -> u64
     requires { ⌜ 0 < parts ⌝ }
     ensures { λ r. ⌜ r ≡ items / parts ⌝ }
