@@ -285,8 +285,8 @@ uint64_t microscope_estimate_with(const microscope_sketch *sketch, const uint32_
 
 /*
  * Items a sub-window: `under` divided by the sub-windows begun, rounded down. By sub-window n these are n + 1, and from
- * n = t - 1 on t: just after the start, when only a few exist, the mean is over those. (Up to version 20000 it was over t
- * from the start.)
+ * n = t - 1 on t: just after the start, when only a few exist, the mean is over those. On a clock of time they are counted
+ * from the epoch, so it is to be the moment of the start. (Up to version 20000 the mean was over t from the start.)
  */
 uint64_t microscope_mean(const microscope_sketch *sketch, const uint32_t *key, size_t columns, const uint8_t *grid,
                          size_t grid_bytes, microscope_value *mean);

@@ -154,7 +154,8 @@ impl MicroCm {
         read(|figures, items| calls::estimate_with(&self.sketch, key, fraction, &self.grid, figures, items))
     }
 
-    /// Items a sub-window: Under divided by the sub-windows begun, which are the lesser of n + 1 and t; rounded down.
+    /// Items a sub-window: Under divided by the sub-windows begun, which are the lesser of n + 1 and t; rounded down. On a
+    /// clock of time they are counted from the epoch, so it is to be the moment of the start.
     ///
     /// ```
     /// use microscope::{MicroCm, MicroParams, SubWindowClock};
