@@ -20,8 +20,8 @@ use Rattle.cell.specs.Workers.{Fit}
 use Rattle.laws.proofs.SmallLaws.{Small}
 use Rattle.cell.proofs.CellLaws.{slot-inside}
 use Rattle.cell.proofs.PowerLaws.{max-zoom-limit}
-use Rattle.cell.proofs.CrossingLaws.{closed, inside-quiet, clear-zoom, zoomed-kept, zoomed-zoom, zoomed-shutter}
-use Rattle.band.proofs.PixelLaws.{clear-other, clear-here, emptied-zoom, emptied-pixel, zoomed-pixel}
+use Rattle.cell.proofs.CrossingLaws.{closed, inside-quiet, clear-zoom, emptied-zoom, zoomed-kept, zoomed-zoom, zoomed-shutter}
+use Rattle.cell.proofs.PixelLaws.{clear-other, clear-here, emptied-pixel, zoomed-pixel}
 use Rattle.band.proofs.RoundedLaws.{rounded}
 use Rattle.band.proofs.CellHistory.{credit-keeps, Holds, zeroed-fit, zeroed-small, zeroed-known}
 use Rattle.band.proofs.History as H

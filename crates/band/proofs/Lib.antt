@@ -2,7 +2,6 @@ pub mod SubWindow
 pub mod History
 pub mod RoundedLaws
 pub mod CellHistory
-pub mod PixelLaws
 pub mod CrossingHistory
 pub mod TallyLaws
 pub mod Runs

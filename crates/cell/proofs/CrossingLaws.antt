@@ -106,7 +106,7 @@ zeros-small zero i = omega arith
 zeros-small (suc n) zero = omega arith
 zeros-small (suc n) (suc i) = zeros-small n i
 
-module _ (t c : ℕ) (b : List ℕ) (σ : ℕ) (fit : Fit t c (length b)) where
+module _ (t c : ℕ) (b : List ℕ) (fit : Fit t c (length b)) where
   abbrev zeroed : List ℕ
   zeroed = withPixels t (replicate (pixelsOf t) 0) b
 
@@ -115,16 +115,16 @@ module _ (t c : ℕ) (b : List ℕ) (σ : ℕ) (fit : Fit t c (length b)) where
       with-pixels-kept t (replicate (pixelsOf t) 0) b (length-replicate (pixelsOf t) 0) b (kept-same t b) (fit .size-is)
       (λ h. zeros-small (pixelsOf t))
 
-  zeroed-size : length zeroed ≡ depthOf t
+  pub zeroed-size : length zeroed ≡ depthOf t
   zeroed-size = zeroed-kept .long ∙ fit .size-is
 
-  emptied-zoom : zoomOf t (emptied t b) ≡ zoomOf t b
+  pub emptied-zoom : zoomOf t (emptied t b) ≡ zoomOf t b
   unfolding emptied
   emptied-zoom = with-shutter-zoom t 0 zeroed zeroed-size ∙ with-pixels-zoom t (replicate (pixelsOf t) 0) b (length-replicate (pixelsOf t) 0)
 
-  emptied-quiet : Quiet t c b σ (still (emptied t b) σ)
+  emptied-quiet : (σ : ℕ) → Quiet t c b σ (still (emptied t b) σ)
   unfolding emptied stateAfter
-  emptied-quiet = record {
+  emptied-quiet σ = record {
     kept = kept-then t b zeroed (emptied t b) zeroed-kept (with-shutter-kept t 0 zeroed zeroed-size);
     shutter = with-shutter-shutter t 0 zeroed zeroed-size (omega arith);
     zoom-low = λ h. rw emptied-zoom h;
@@ -149,7 +149,7 @@ module _ (t c n crossed : ℕ) (b : List ℕ) (σ : ℕ) (fit : Fit t c (length 
       clear-zoom t crossed (beginOf n crossed) (shut .bytes)
       in
       either (Quiet t c b σ) (leb (pixelsOf t) crossed) (still (emptied t b) σ) (leaving shut (clearOf t crossed (beginOf n crossed) (shut .bytes)))
-      (λ e. emptied-quiet t c b σ fit)
+      (λ e. emptied-quiet t c b fit σ)
       (λ e. record {
         kept = kept-then t b (shut .bytes) _ (shut-quiet .kept) (clear-kept t crossed (beginOf n crossed) (shut .bytes));
         shutter = clear-shutter t crossed (beginOf n crossed) (shut .bytes) ∙ shut-quiet .shutter;
@@ -248,6 +248,10 @@ module _ (t c n crossed : ℕ) (b : List ℕ) (σ : ℕ) (fit : Fit t c (length 
       })
 
 -- a far jump draws nothing
+pub inside-far : (t c n crossed : ℕ) (b : List ℕ) (σ : ℕ) → pixelsOf t ≤ crossed → insideOf t c n crossed b σ ≡ still (emptied t b) σ
+unfolding insideOf
+inside-far t c n crossed b σ h = simp (le-leb _ _ h)
+
 pub cross-far : (t c n crossed : ℕ) (b : List ℕ) (σ : ℕ) → pixelsOf t ≤ crossed → crossOf t c n crossed b σ ≡ still (zoomInOf t c (emptied t b)) σ
-unfolding crossOf insideOf
-cross-far t c n crossed b σ h = simp (ne-eqb _ _ (λ (e : crossed ≡ 0). omega arith), le-leb _ _ h)
+unfolding crossOf
+cross-far t c n crossed b σ h = simp (ne-eqb _ _ (λ (e : crossed ≡ 0). omega arith), inside-far t c n crossed b σ h)

@@ -86,6 +86,17 @@ before-gate p σ size =
     gate-chain (refuseParams p) (λ rest. refuse 5 state (refuse 6 depth rest)) (params-gate p)
     (gate-chain (refuse 5 state) (refuse 6 depth) (refuse-then 5 state) (refuse-then 6 depth))
 
+-- a call that is accepted has settings that are, and a cell of its depth
+pub accepted-fit : (p : MicroParams) (σ size : ℕ) (rest : Verdict) → beforeCell p σ size rest ≡ Accepted → Fit (p .t) (p .c) size
+accepted-fit p σ size rest e =
+    let one = not-refused 1 (outside 1 4096 (p .t)) _ e in
+    let two = not-refused 2 (outside 2 256 (p .c)) _ (one .1) in
+    let five = not-refused 5 (eqb σ 0) _ (two .1) in
+    let six = not-refused 6 (not (eqb size (depthOf (p .t)))) rest (five .1) in
+    let t-in = inside-range 1 4096 (p .t) (one .0) in
+    let c-in = inside-range 2 256 (p .c) (two .0) in
+    record { t-low = t-in .0; t-high = t-in .1; c-low = c-in .0; c-high = c-in .1; size-is = eqb-true _ _ (not-false _ (six .0)) }
+
 -- where all was judged that is told before a cell
 module _ (p : MicroParams) (σ size : ℕ) (v : Verdict) (judged : v ≡ beforeCell p σ size Accepted) (ok : Bool) (asked : ok ≡ isAccepted v) where
   pub opened-out : not ok ≡ true → (rest : Verdict) → v ≡ beforeCell p σ size rest
@@ -96,14 +107,7 @@ module _ (p : MicroParams) (σ size : ℕ) (v : Verdict) (judged : v ≡ beforeC
     opened-on rest = gate-open (beforeCell p σ size) (before-gate p σ size) rest (sym judged ∙ let-pass v ok asked h)
 
     pub opened-fit : Fit (p .t) (p .c) size
-    opened-fit =
-        let one = not-refused 1 (outside 1 4096 (p .t)) _ (sym judged ∙ let-pass v ok asked h) in
-        let two = not-refused 2 (outside 2 256 (p .c)) _ (one .1) in
-        let five = not-refused 5 (eqb σ 0) _ (two .1) in
-        let six = not-refused 6 (not (eqb size (depthOf (p .t)))) Accepted (five .1) in
-        let t-in = inside-range 1 4096 (p .t) (one .0) in
-        let c-in = inside-range 2 256 (p .c) (two .0) in
-        record { t-low = t-in .0; t-high = t-in .1; c-low = c-in .0; c-high = c-in .1; size-is = eqb-true _ _ (not-false _ (six .0)) }
+    opened-fit = accepted-fit p σ size Accepted (sym judged ∙ let-pass v ok asked h)
 
 -- THE LOWEST NUMBER, where nothing is told before the cell: whether it is sound comes last
 module _ (p : MicroParams) (b : List ℕ) (σ : ℕ) (none : beforeCell p σ (length b) Accepted ≡ Accepted) where

@@ -14,6 +14,7 @@ pub mod HeldLaws
 pub mod AtMostLaws
 pub mod SumsLaws
 pub mod CrossingLaws
+pub mod PixelLaws
 pub mod MergeLaws
 pub mod CauseTheorems
 pub mod NamedLaws

@@ -4,7 +4,7 @@ use mathlib.Core.Path.{_≡_, refl, sym, ap, _∙_}
 use mathlib.Core.Bool.{true}
 use mathlib.Core.List.{List, [], _∷_}
 use lib.Dec.{ltb, eqb}
-use lib.ListN.{length, length-set}
+use lib.ListN.{length, length-set, take-append-drop}
 use lib.Seq.{length-front}
 use native.Mathlib.Omega.{arith}
 use borrow.Author.Tests.{ltb-true}
@@ -181,3 +181,13 @@ module _ (k : MicroCm) (fit : Fits k) where
           each-holds (crossCell k n crossed) depth crossed-length (cellsOf k) 0 g σ room (λ i d s. s ≡ stateAfter d σ) refl
           (λ i d s l e. let more = crossCell k n crossed i (cellOf k g i) s .draws in leaves i s l .state ∙ ap (stateAfter more) e ∙ sym (after-add d more σ))
           (cellsOf k) (omega arith)
+
+-- A CROSSING BY 0 of every cell does nothing
+each-none : (t c n size count j : ℕ) (g : List ℕ) (σ : ℕ) → eachOf (λ i b τ. crossOf t c n 0 b τ) size j count g σ ≡ still g σ
+unfolding eachOf crossOf
+each-none t c n size zero j g σ = refl
+each-none t c n size (suc count) j g σ = rw (each-none t c n size count (suc j) _ σ) (simp take-append-drop)
+
+pub cross-none : (k : MicroCm) (n : ℕ) (g : List ℕ) (σ : ℕ) → crossEach k n 0 g σ ≡ still g σ
+unfolding crossEach
+cross-none k n g σ = each-none (k .params .t) (k .params .c) n (depthOf (k .params .t)) (cellsOf k) 0 g σ

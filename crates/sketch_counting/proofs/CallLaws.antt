@@ -20,11 +20,11 @@ use Rattle.sketch.specs.Sketch.{World, cellsOf, crossEach, moved, updated, upda
 use Rattle.sketch.specs.Refusals.{sketchOutcome, sketchCall, answered, undrawn, world, itemVerdict, moveVerdict}
 use Rattle.sketch.specs.Refusals.{updateVerdict, updateCall, updateAtVerdict, updateAtCall, advanceVerdict, advanceCall}
 use Rattle.sketch.specs.Workers.{passOf, wentOn}
+use Rattle.sketch.proofs.GridLaws.{cross-none}
 use Rattle.sketch_counting_passes.specs.Workers.{crossCells, passed}
 use Rattle.sketch_counting_items.specs.declared.worker.Counted.{Counted}
 use Rattle.sketch_counting_items.specs.Workers.{SubWindows, windows, Moves, itemOf, itemCounted}
 use Rattle.sketch_counting.specs.Workers.{countedAnswer}
-use Rattle.sketch_counting_items.proofs.MoveLaws.{cross-none}
 use Rattle.sketch_counting_items.proofs.ItemLaws.{left, item-first, item-last}
 
 -- THE SUB-WINDOWS of a call

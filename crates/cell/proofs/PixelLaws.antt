@@ -1,17 +1,17 @@
--- Each pixel after each stage of a crossing: a pixel is written at its own slot alone.
+-- Each pixel after each stage of a crossing: a pixel is written at its own slot alone. Assumes nothing.
 use Prim.Native.Nat.{ℕ, zero, suc, _+_, _*_, _≤_, _<_}
 use mathlib.Core.Path.{_≡_, refl, sym, _∙_}
 use mathlib.Core.List.{List, [], _∷_}
 use lib.ListN.{length, getD, replicate, length-set, length-replicate, getD-replicate}
-use lib.Seq.{getD-set-same, getD-set-other, getD-take, length-front, length-take-le}
+use lib.Seq.{getD-set-same, getD-set-other, getD-take, length-take-le}
 use native.Mathlib.Omega.{arith}
 use native.Mathlib.Nat.{zero-mul}
 use native.Mathlib.Decide.{ℕ-discrete}
-use Rattle.cell.specs.Cell.{pixelsOf, depthOf, slotOf, pixelsIn, pixelOf, zoomOf, withPixel, withPixels}
+use Rattle.cell.specs.Cell.{pixelsOf, slotOf, pixelsIn, pixelOf, withPixel, withPixels}
 use Rattle.cell.specs.Crossing.{clearOf, emptied, timesEach, zoomedIn}
 use Rattle.cell.specs.Workers.{Fit}
-use Rattle.cell.proofs.CrossingLaws.{times-length}
-use Rattle.cell.proofs.CellLaws.{slot-inside, with-zoom-pixel, with-pixels-pixel, with-pixels-zoom, with-shutter-pixel, with-shutter-zoom}
+use Rattle.cell.proofs.CrossingLaws.{zeroed-size, times-length}
+use Rattle.cell.proofs.CellLaws.{slot-inside, with-zoom-pixel, with-pixels-pixel, with-shutter-pixel}
 
 -- CLEAR: a slot that is none of those cleared stays
 module _ (t : ℕ) where
@@ -53,24 +53,13 @@ module _ (t : ℕ) where
           rw e (clear-zero k (first + 1) next (slotOf t first) (rw (length-set b (slotOf t first) 0) (omega arith)) here)
       by (no ne) f = f ne
 
--- THE FAR JUMP leaves the zoom and no pixel
-module _ (t c : ℕ) (b : List ℕ) (fit : Fit t c (length b)) where
-  abbrev zeros : List ℕ
-  zeros = replicate (pixelsOf t) 0
-
-  many : length (replicate {A = ℕ} (pixelsOf t) 0) ≡ pixelsOf t
-  many = length-replicate (pixelsOf t) 0
-
-  size : length (withPixels t zeros b) ≡ depthOf t
-  size = length-front b zeros (pixelsOf t) (many ∙ sym (length-take-le (pixelsOf t) b (omega (arith, fit .size-is)))) ∙ fit .size-is
-
-  pub emptied-zoom : zoomOf t (emptied t b) ≡ zoomOf t b
-  unfolding emptied
-  emptied-zoom = with-shutter-zoom t 0 (withPixels t zeros b) size ∙ with-pixels-zoom t zeros b many
-
-  pub emptied-pixel : (i : ℕ) → i < pixelsOf t → pixelOf (emptied t b) i ≡ 0
-  unfolding emptied
-  emptied-pixel i l = with-shutter-pixel t 0 (withPixels t zeros b) size i l ∙ with-pixels-pixel t zeros b many i l ∙ getD-replicate (pixelsOf t) i 0 0 l
+-- THE FAR JUMP leaves no pixel
+pub emptied-pixel : (t c : ℕ) (b : List ℕ) → Fit t c (length b) → (i : ℕ) → i < pixelsOf t → pixelOf (emptied t b) i ≡ 0
+unfolding emptied
+emptied-pixel t c b fit i l =
+    let zeros : List ℕ = replicate (pixelsOf t) 0 in
+    with-shutter-pixel t 0 (withPixels t zeros b) (zeroed-size t c b fit) i l ∙ with-pixels-pixel t zeros b (length-replicate (pixelsOf t) 0) i l
+    ∙ getD-replicate (pixelsOf t) i 0 0 l
 
 -- ONE LEVEL IN: each pixel times c
 times-pixel : (c : ℕ) (l : List ℕ) (i : ℕ) → getD (timesEach c l) i 0 ≡ getD l i 0 * c
