@@ -15,6 +15,8 @@ pub mod AtMostLaws
 pub mod SumsLaws
 pub mod CrossingLaws
 pub mod PixelLaws
+pub mod ZoomInLaws
+pub mod ZoomInWorked
 pub mod MergeLaws
 pub mod CauseTheorems
 pub mod NamedLaws

@@ -3,8 +3,10 @@ pub mod Insertion
 pub mod Crossing
 pub mod Merge
 pub mod Refusals
+pub mod ZoomIn
 pub mod Causes
 pub mod Named
 pub mod Limits
 pub mod BenchSheet
+pub mod ZoomInExamples
 pub mod Workers

@@ -1,9 +1,10 @@
 -- Minimum, maximum and sum go term by term, so what holds of every term up to k carries over by induction on k.
-use Prim.Native.Nat.{ℕ, zero, suc, _+_, _*_, _≤_, _<_}
-use mathlib.Core.Path.{_≡_}
+use Prim.Native.Nat.{ℕ, zero, suc, _+_, _*_, _≤_, _<_, max}
+use mathlib.Core.Path.{_≡_, sym, ap, _∙_}
 use mathlib.Core.Logic.{⊎-elim}
 use native.Mathlib.Omega.{arith}
-use native.Mathlib.Nat.{le-refl, le-step, le-suc-iff}
+use native.Mathlib.Decide.{decLe}
+use native.Mathlib.Nat.{le-refl, le-step, le-suc-iff, max-eq-left, max-eq-right, mul-le-mul-left}
 use Rattle.laws.specs.Sums.{least, largest, total}
 use Rattle.laws.specs.Within.{Within}
 
@@ -14,6 +15,15 @@ module _ {P : ℕ → Type 0} (k : ℕ) (h : (i : ℕ) → i ≤ suc k → P i) 
 
   last : P (suc k)
   last = h (suc k) (le-refl (suc k))
+
+max-times : (c a b : ℕ) → max (c * a) (c * b) ≡ c * max a b
+max-times c a b = by (decLe a b)
+  where
+    by : Dec (a ≤ b) → max (c * a) (c * b) ≡ c * max a b
+    by (yes h) = max-eq-right (mul-le-mul-left c h) ∙ ap (λ (m : ℕ). c * m) (sym (max-eq-right h))
+    by (no h) =
+        let l : b ≤ a = omega arith in
+        max-eq-left (mul-le-mul-left c l) ∙ ap (λ (m : ℕ). c * m) (sym (max-eq-left l))
 
 pub least-le : (k : ℕ) (f : ℕ → ℕ) (i : ℕ) → i ≤ k → least k f ≤ f i
 unfolding least
@@ -33,6 +43,12 @@ pub largest-lt : (k m : ℕ) (f : ℕ → ℕ) → ((i : ℕ) → i ≤ k → f 
 unfolding largest
 largest-lt zero m f h = h 0 (le-refl 0)
 largest-lt (suc k) m f h = omega (arith, largest-lt k m f (earlier k h), last k h)
+
+-- terms that are each c times the others'
+pub largest-times : (k c : ℕ) (f g : ℕ → ℕ) → ((i : ℕ) → i ≤ k → g i ≡ c * f i) → largest k g ≡ c * largest k f
+unfolding largest
+largest-times zero c f g h = h 0 (le-refl 0)
+largest-times (suc k) c f g h = rw (largest-times k c f g (earlier k h), last k h) (max-times c (largest k f) (f (suc k)))
 
 pub total-le : (k m : ℕ) (f : ℕ → ℕ) → ((i : ℕ) → i ≤ k → f i ≤ m) → total k f ≤ (k + 1) * m
 unfolding total
