@@ -4,11 +4,9 @@ use mathlib.Core.Bool.{cond}
 use mathlib.Core.List.{List, [], _∷_}
 use lib.Dec.{eqb}
 use Rattle.refusal.specs.Refusals.{whenAccepted}
-use Rattle.laws.specs.Passes.{eachOf}
-use Rattle.cell.specs.Cell.{depthOf, zoomOf}
-use Rattle.cell.specs.Crossing.{insideOf}
-use Rattle.clock.specs.Clock.{nOf, crossedOf}
-use Rattle.sketch.specs.Sketch.{cellOf, crossCell, World}
+use Rattle.cell.specs.Cell.{zoomOf}
+use Rattle.sketch.specs.Sketch.{cellOf, World}
+use Rattle.sketch.specs.ZoomIn.{begins, clearedAt}
 use Rattle.band.specs.Calls.{Call, outcome, next}
 use Rattle.band.specs.Stages.{Stage, recording, moving, stagesOf, done}
 
@@ -16,18 +14,11 @@ use Rattle.band.specs.Stages.{Stage, recording, moving, stagesOf, done}
 unfoldable pub zoomNow : World → ℕ → ℕ
 zoomNow w j = zoomOf (w .sketch .params .t) (cellOf (w .sketch) (w .grid) j)
 
--- the zoom that the j-th cell holds inside a stage. In a move that is inside its crossing; it draws from the state that the j cells before it left.
+-- the zoom that the j-th cell holds inside a stage. In a move that is when clearing is done, from where document 02, T-11 counts the levels that it zooms in.
 -- A recording has none: what it leaves is held inside the crossing that follows, or after the call
 unfoldable pub zoomInside : World → Stage → ℕ → ℕ
 zoomInside w (recording key) j = 0
-zoomInside w (moving clock) j =
-    let k = w .sketch in
-    let t = k .params .t in
-    let c = k .params .c in
-    let n = nOf clock in
-    let crossed = crossedOf (k .clock) clock in
-    let σ = eachOf (crossCell k n crossed) (depthOf t) 0 j (w .grid) (k .rounding .state) .state in
-    cond (eqb crossed 0) (zoomNow w j) (zoomOf t (insideOf t c n crossed (cellOf k (w .grid) j) σ .bytes))
+zoomInside w (moving clock) j = cond (eqb (begins w clock) 0) (zoomNow w j) (zoomOf (w .sketch .params .t) (clearedAt w clock j))
 
 -- the highest that it holds inside these stages
 unfoldable pub zoomThrough : World → List Stage → ℕ → ℕ

@@ -21,3 +21,4 @@ pub mod JudgeLoops
 pub mod GridLaws
 pub mod KeyLaws
 pub mod WorldLaws
+pub mod ZoomInLaws

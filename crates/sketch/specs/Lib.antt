@@ -6,6 +6,7 @@ pub mod Refusals
 pub mod Causes
 pub mod Acceptance
 pub mod Mean
+pub mod ZoomIn
 pub mod Named
 pub mod NamedExamples
 pub mod BenchSheet
