@@ -76,6 +76,68 @@ fn sub_windows(cell: &[u8], params: MicroParams, n: u64, unit: u64) {
     sub_window(cell, params, at, unit);
 }
 
+fn larger(a: u8, b: u8) -> u8 {
+    if a < b { b } else { a }
+}
+
+// How far the zoom falls when clearing is done, with this largest pixel (document 02, T-11).
+fn falls(most: u8, c: u32, zoom: u8) {
+    let k = bench_tool_levels::levels(c, most, zoom);
+    if k == 0 {
+        print::number(b" zooms in by 0, stays at zoom ", zoom as u64);
+        print::number(b" (largest pixel ", most as u64);
+        print::text(b")\n");
+        return;
+    }
+    let times = unit(c, k);
+    print::number(b" zooms in by ", k as u64);
+    print::number(b", to zoom ", (zoom - k) as u64);
+    print::number(b" (largest pixel ", most as u64);
+    print::number(b" x ", times);
+    print::number(b" = ", numbers::product(most as u64, times));
+    print::text(b")\n");
+}
+
+// The shutter gives the newest pixel 1 more. A full pixel takes none: below the highest zoom the cell zooms out, and
+// what the other pixels become is drawn.
+fn falls_from_one_more(most: u8, newest: u8, c: u32, zoom: u8) {
+    if newest < 255 {
+        falls(larger(most, newest + 1), c, zoom);
+        return;
+    }
+    let highest = cell_reading::max_zoom(c);
+    if zoom < highest.zoom {
+        print::number(
+            b" the newest pixel is full: zooms out to ",
+            std::num::wrapping_add_u64(zoom as u64, 1),
+        );
+        print::text(b" first, and in again by 1 at most\n");
+        return;
+    }
+    print::text(b" the newest pixel is full, its unit is lost;");
+    falls(most, c, zoom);
+}
+
+// What the next crossing, by 1, makes of the zoom: the shutter is closed, to 0 or to 1, and the stale slot cleared.
+fn next_crossing(cell: &[u8], params: MicroParams, n: u64, stale: usize, zoom: u8, shutter: u32) {
+    if n == 0xFFFF_FFFF_FFFF_FFFF {
+        print::text(b"  next crossing: none, n is the last\n");
+        return;
+    }
+    let pixels = std::num::wrapping_add_usize(params.t, 2);
+    let most = bench_tool_levels::largest_left(words::part(cell, 0, pixels), stale);
+    print::number(b"  next crossing, by 1: clears slot ", stale as u64);
+    if shutter == 0 {
+        print::text(b";");
+        falls(most, params.c, zoom);
+        return;
+    }
+    print::text(b"\n    shutter closed to 0:");
+    falls(most, params.c, zoom);
+    print::text(b"    shutter closed to 1:");
+    falls_from_one_more(most, words::get(cell, slot_of(params.t, n)), params.c, zoom);
+}
+
 fn draw(cell: &[u8], params: MicroParams, n: u64) {
     let zoom = cell_reading::zoom(cell, params);
     let shutter = cell_reading::shutter(cell, params);
@@ -96,6 +158,7 @@ fn draw(cell: &[u8], params: MicroParams, n: u64) {
     print::number(b"  stale: slot ", stale as u64);
     print::number(b", pixel ", words::get(cell, stale) as u64);
     print::text(b", in no figure\n");
+    next_crossing(cell, params, n, stale, zoom.zoom, shutter.shutter);
 }
 
 // The call on one cell knows no other index than 0; here it is told as the calls on the grid tell it.
@@ -153,10 +216,6 @@ pub fn zoom_at(sketch: MicroCm, row: usize, col: usize, grid: &[u8]) -> u8 {
         return 99;
     }
     answer.zoom
-}
-
-fn larger(a: u8, b: u8) -> u8 {
-    if a < b { b } else { a }
 }
 
 // The highest of `count` columns.

@@ -20,6 +20,7 @@ zoom-in-worked = record {
   by-three = λ σ. (refl, refl, refl);
   at-most-zoom = λ σ. (refl, refl, refl);
   uncovered = λ σ. (refl, refl, refl);
+  uncovered-last = λ σ. (refl, refl, refl);
   cleared-first = λ σ. (refl, refl, refl);
   raised-first = (refl, refl, refl);
   all-zero = λ σ. (refl, refl, refl);

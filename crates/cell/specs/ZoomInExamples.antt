@@ -19,8 +19,9 @@ pub record ZoomInWorked : Type 0 where
   pub by-three : (σ : ℕ) → Works 2 1 1 (cellWith 31 9 5 7 0) σ (cellWith 31 0 5 7 0) 3 (cellWith 248 0 40 4 0)
   -- k is at most Z: 2 ^ 7 × 1 would fit too
   pub at-most-zoom : (σ : ℕ) → Works 2 1 1 (cellWith 1 0 0 1 0) σ (cellWith 1 0 0 1 0) 1 (cellWith 2 0 0 0 0)
-  -- all t + 2 pixels: at n = 2 no figure covers slot 0, and it holds the others back
+  -- all t + 2 pixels: at n = 2 no figure covers slot 0, at n = 4 none covers slot 2, and it holds the others back
   pub uncovered : (σ : ℕ) → Works 2 2 2 (cellWith 200 0 0 1 0) σ (cellWith 200 0 0 1 0) 0 (cellWith 200 0 0 1 0)
+  pub uncovered-last : (σ : ℕ) → Works 2 1 4 (cellWith 1 9 200 1 0) σ (cellWith 1 0 200 1 0) 0 (cellWith 1 0 200 1 0)
   -- the pixels when clearing is done: a 200 that is cleared holds nothing back
   pub cleared-first : (σ : ℕ) → Works 2 1 1 (cellWith 0 200 0 1 0) σ (cellWith 0 0 0 1 0) 1 (cellWith 0 0 0 0 0)
   -- Z when clearing is done: the shutter closes up into a full pixel, which raises it from 1 to 2, and there it stays

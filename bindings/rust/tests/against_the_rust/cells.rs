@@ -6,6 +6,7 @@ use crate::held::WIDE;
 use crate::judge;
 use crate::junk;
 use crate::layout;
+use crate::levels::Crossing;
 use crate::numbers::{self, Causes};
 use crate::plain_calls::{Answer, told as answered};
 use crate::score::{Outcome, called, same, same_bytes, unchanged};
@@ -99,19 +100,66 @@ fn insert(told: &Told, n: u64) -> Outcome {
     )
 }
 
-fn enter(dice: &mut Dice, told: &Told, n: u64) -> Outcome {
-    let crossed = match dice.below(4) {
+fn crossed(dice: &mut Dice, told: &Told, n: u64) -> u64 {
+    match dice.below(4) {
         0 => dice.any_size(),
         1 => n,
         _ => dice.below(told.t.min(4096) + 4),
-    };
+    }
+}
+
+fn enter(told: &Told, n: u64, crossed: u64) -> Outcome {
     let causes = numbers::change(told.t, told.c, told.state, Some((n, crossed)), &[&told.cell]);
+    let accepted = numbers::first(&causes) == 0;
     left(
         told,
         causes,
         |cell, state, change| calls::cell_enter_sub_window(cell, told.t, told.c, n, crossed, state, change),
         |t, c| judge::enter(t, c, n, crossed, told.state, &told.theirs()),
-    )
+    )?;
+    if !accepted {
+        return Ok(());
+    }
+    let (t, c) = told.small();
+    let (state, theirs) = (told.state, told.theirs());
+    let crossing = Crossing {
+        t,
+        c,
+        n,
+        crossed,
+        state,
+    };
+    crossing.kept(&theirs, &judge::enter(t, c, n, crossed, state, &theirs))
+}
+
+/// Document 02, T-11, worked by hand: three pixels, zoom and shutter; n and how many are crossed; and what is left.
+fn worked(c: u16, before: ([u8; 3], u8, u32), n: u64, by: u64, after: ([u8; 3], u8, u32)) -> Outcome {
+    let bytes = |(pixels, zoom, shutter): ([u8; 3], u8, u32)| judge::cell(1, c, &pixels, zoom, shutter, 0);
+    let told = Told {
+        t: 1,
+        c: c as u64,
+        cell: layout::from_theirs(1, bytes(before)),
+        state: 2,
+    };
+    enter(&told, n, by)?;
+    let left = judge::enter(1, c, n, by, told.state, &told.theirs());
+    same_bytes("the cell worked by hand", &left.cell, &bytes(after))
+}
+
+pub const ALL: [(&str, fn() -> Outcome); 1] = [("how far a crossing zooms in", crossings)];
+
+fn crossings() -> Outcome {
+    worked(2, ([127, 0, 0], 1, 0), 1, 1, ([254, 0, 0], 0, 0))?;
+    worked(2, ([128, 0, 0], 1, 0), 1, 1, ([128, 0, 0], 1, 0))?;
+    worked(3, ([85, 0, 0], 1, 0), 1, 1, ([255, 0, 0], 0, 0))?;
+    worked(2, ([31, 9, 5], 7, 0), 1, 1, ([248, 0, 40], 4, 0))?;
+    worked(2, ([1, 0, 0], 1, 0), 1, 1, ([2, 0, 0], 0, 0))?;
+    worked(2, ([200, 0, 0], 1, 0), 2, 2, ([200, 0, 0], 1, 0))?;
+    worked(2, ([1, 9, 200], 1, 0), 4, 1, ([1, 0, 200], 1, 0))?;
+    worked(2, ([0, 200, 0], 1, 0), 1, 1, ([0, 0, 0], 0, 0))?;
+    worked(2, ([255, 0, 0], 1, 1), 1, 1, ([128, 0, 0], 2, 0))?;
+    worked(2, ([255, 255, 255], 31, 7), 3, 3, ([0, 0, 0], 0, 0))?;
+    worked(2, ([1, 0, 0], 1, 1), 1, 0, ([1, 0, 0], 1, 1))
 }
 
 fn merge(dice: &mut Dice, told: &Told, n: u64, mut src: Vec<u8>) -> Outcome {
@@ -177,7 +225,7 @@ pub fn story(dice: &mut Dice) -> Outcome {
         }
         let outcome = match dice.below(10) {
             0..4 => insert(&told, n),
-            4..7 => enter(dice, &told, n),
+            4..7 => enter(&told, n, crossed(dice, &told, n)),
             7 | 8 => merge(dice, &told, n, src),
             _ => fields(&told, n).and_then(|()| settings(&told)),
         };

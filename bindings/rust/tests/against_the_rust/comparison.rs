@@ -20,6 +20,7 @@ mod held;
 mod hits;
 mod junk;
 mod layout;
+mod levels;
 mod load_order;
 mod means;
 mod named;
@@ -135,7 +136,8 @@ fn code_story(dice: &mut Dice) -> Outcome {
 fn compare(run: &Run) -> Score {
     let mut score = Score::default();
     let directed = directed::ALL.into_iter().chain(refusals::ALL).chain(unsound::ALL);
-    for (name, story) in directed.chain(draws::ALL).chain(band::ALL).chain(pairs::ALL) {
+    let directed = directed.chain(cells::ALL).chain(draws::ALL).chain(band::ALL);
+    for (name, story) in directed.chain(pairs::ALL) {
         score.count(name, story());
     }
     for (name, story) in code_causes::ALL.into_iter().chain(code_directed::ALL) {
@@ -145,7 +147,12 @@ fn compare(run: &Run) -> Score {
     while score::calls() < run.calls && score.differences < ENOUGH {
         score.count("random", story(&mut dice));
     }
-    for (what, (line, outcome)) in [("cells named", named::told()), ("means", means::told())] {
+    let counted = [
+        ("cells named", named::told()),
+        ("means", means::told()),
+        ("crossings", levels::told()),
+    ];
+    for (what, (line, outcome)) in counted {
         println!("{line}");
         score.count(what, outcome);
     }
