@@ -22,3 +22,4 @@ pub mod GridLaws
 pub mod KeyLaws
 pub mod WorldLaws
 pub mod ZoomInLaws
+pub mod ZoomInWorked

@@ -11,4 +11,5 @@ pub mod Named
 pub mod NamedExamples
 pub mod BenchSheet
 pub mod MeanExamples
+pub mod ZoomInExamples
 pub mod Workers
