@@ -9,7 +9,8 @@
  * THE IDEA. A sketch is rows x cols cells. A key is one column for each row, so one cell in each row; how a key
  * becomes columns (a hash) is the caller's. The window is t sub-windows and the part of one more that has not left it
  * yet; a sub-window is a number of items, or a span of time in the unit of the caller's time stamps. A cell has t + 2
- * pixels of one byte and a zoom Z: a pixel is worth c^Z items. A pixel that would pass 255 raises Z.
+ * pixels of one byte and a zoom Z: a pixel is worth c^Z items. A pixel that would pass 255 raises Z; as a sub-window begins
+ * Z falls again, as far as the pixels allow (microscope_cell_enter_sub_window says how far).
  *
  * WHO OWNS WHAT. All memory is the caller's. The library allocates nothing, keeps nothing between calls and has no
  * variables of its own, so calls on different sketches may run at the same time; calls on one sketch may not, unless
@@ -406,7 +407,22 @@ uint64_t microscope_cell_scaled_pixel(const uint8_t *cell, size_t cell_bytes, ui
 uint64_t microscope_cell_insert(uint8_t *cell, size_t cell_bytes, uint64_t t, uint64_t c, uint64_t n, uint64_t *state,
                                 microscope_change *change);
 
-/* Moves a cell into sub-window new_n, which is `crossed` sub-windows on. */
+/*
+ * Moves a cell into sub-window new_n, which is `crossed` sub-windows on; with crossed 0 nothing changes.
+ *
+ * HOW FAR IT ZOOMS IN (document 02, T-11; proved, whatever the random state). First the shutter is closed, and the pixels of
+ * the sub-windows that begin are cleared: by t + 2 or more, all of them. Closing raises Z by 1 if it credits a pixel that is
+ * full. With Z and all t + 2 pixels as they are then, Z falls by exactly k, the largest k <= Z for which c^k times the
+ * largest pixel is at most 255, and every pixel becomes c^k times itself: so it is worth as many items as before. All pixels
+ * 0 gives k = Z. Of `largest`, c and Z, k is what this leaves:
+ *
+ *     for (k = 0; k < Z && largest * c <= 255; k++) largest *= c;
+ *
+ * On a display that draws pixels as bars they grow by c^k and their unit, c^Z, shrinks by as much. A pixel in no figure (that
+ * of sub-window new_n - t - 1) counts as the others do until it is cleared. Each cell of a sketch crosses so, by itself, in
+ * microscope_update behind the item, in microscope_update_at before it, and in microscope_advance_to. Seen from outside, with
+ * the zoom before and after a crossing, k is before - after, or one more if closing raised Z.
+ */
 uint64_t microscope_cell_enter_sub_window(uint8_t *cell, size_t cell_bytes, uint64_t t, uint64_t c, uint64_t new_n,
                                           uint64_t crossed, uint64_t *state, microscope_change *change);
 

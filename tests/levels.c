@@ -138,6 +138,13 @@ static uint64_t levels(uint64_t zoom, uint64_t pixel, uint64_t room) {
     return k;
 }
 
+/* The same as include/microscope.h tells it, word for word. */
+static uint64_t told(uint64_t largest, uint64_t Z) {
+    uint64_t k;
+    for (k = 0; k < Z && largest * c <= 255; k++) largest *= c;
+    return k;
+}
+
 /* ---- the mistakes ---- */
 
 enum { TO_256, PAST_ZOOM, OF_COVERED, FROM_ZOOM_BEFORE, BEFORE_CLEARING, ONE_LEVEL, MISTAKES };
@@ -173,7 +180,7 @@ static uint64_t mistaken(int mistake, const struct cell *before, const struct ce
 /* ---- a crossing, reckoned ---- */
 
 static struct {
-    unsigned cells, right, by_none, raised, zoomed_in, several, noticed[MISTAKES];
+    unsigned cells, right, by_none, told_otherwise, raised, zoomed_in, several, noticed[MISTAKES];
 } score;
 
 static void zoom_in(struct cell *cell, const struct cell *before, const struct cell *closed, uint64_t n) {
@@ -181,6 +188,7 @@ static void zoom_in(struct cell *cell, const struct cell *before, const struct c
     for (int mistake = 0; mistake < MISTAKES; mistake++) {
         score.noticed[mistake] += mistaken(mistake, before, closed, cell, n) != k;
     }
+    score.told_otherwise += told(largest(cell), cell->zoom) != k;
     score.raised += cell->zoom > before->zoom;
     score.zoomed_in += k > 0;
     score.several += k > 1;
@@ -234,8 +242,9 @@ static void compare(const uint8_t *before, const uint8_t *ours, const uint8_t *e
 }
 
 static void print_score(const char *what) {
-    printf("%s: %u cells; as reckoned: %u; crossing by 0: %u, raised by closing: %u, zoomed in: %u, by 2 or more: %u\n", what,
-           score.cells, score.right, score.by_none, score.raised, score.zoomed_in, score.several);
+    printf("%s: %u cells; as reckoned: %u; k otherwise in the header: %u; crossing by 0: %u, raised by closing: %u, zoomed in: %u, "
+           "by 2 or more: %u\n",
+           what, score.cells, score.right, score.told_otherwise, score.by_none, score.raised, score.zoomed_in, score.several);
     printf("  wrong would be, 256 for 255: %u, past the zoom: %u, of covered pixels: %u, from the zoom before: %u, before clearing: %u, "
            "one level at most: %u\n",
            score.noticed[TO_256], score.noticed[PAST_ZOOM], score.noticed[OF_COVERED], score.noticed[FROM_ZOOM_BEFORE],

@@ -513,7 +513,25 @@ pub fn cell_insert(
     told(unsafe { microscope_cell_insert(cell.as_mut_ptr(), cell.len(), t, c, n, state, change) })
 }
 
-/// Moves a cell into sub-window `new_n`, `crossed` sub-windows on.
+/// Moves a cell into sub-window `new_n`, `crossed` sub-windows on; by 0 nothing changes.
+///
+/// How far it zooms in (document 02, T-11): with the zoom Z and the t + 2 pixels as they are when the shutter is closed, which
+/// may raise Z by 1, and the pixels of the sub-windows that begin are cleared, Z falls by exactly k, the largest k ≤ Z for
+/// which c^k × the largest pixel ≤ 255. Every pixel becomes c^k × itself, so that it is worth as many items as before; all
+/// pixels 0 gives k = Z.
+///
+/// ```
+/// use microscope::calls::{Change, cell_enter_sub_window};
+///
+/// let k = |c: u64, largest: u64, zoom: u32| (0..=zoom).rev().find(|k| c.pow(*k) * largest <= 255).unwrap();
+///
+/// // t = 1, c = 2: the pixels 31 9 5 at zoom 7. Entering sub-window 1 clears the 9, and 31 is the largest that is left.
+/// let (mut cell, mut state, mut change) = ([31, 9, 5, 7, 0, 0, 0, 0], 1, Change::default());
+/// cell_enter_sub_window(&mut cell, 1, 2, 1, 1, &mut state, &mut change)?;
+/// assert_eq!(k(2, 31, 7), 3);
+/// assert_eq!(cell, [31 * 8, 0, 5 * 8, 7 - 3, 0, 0, 0, 0]);
+/// # Ok::<(), microscope::Refusal>(())
+/// ```
 pub fn cell_enter_sub_window(
     cell: &mut [u8],
     t: u64,

@@ -5,8 +5,7 @@ use mathlib.Core.List.{List, [], _∷_}
 use lib.Dec.{eqb}
 use Rattle.refusal.specs.Refusals.{whenAccepted}
 use Rattle.cell.specs.Cell.{zoomOf}
-use Rattle.sketch.specs.Sketch.{cellOf, World}
-use Rattle.sketch.specs.ZoomIn.{begins, clearedAt}
+use Rattle.sketch.specs.Sketch.{cellOf, World, begins, insideAt}
 use Rattle.band.specs.Calls.{Call, outcome, next}
 use Rattle.band.specs.Stages.{Stage, recording, moving, stagesOf, done}
 
@@ -18,7 +17,7 @@ zoomNow w j = zoomOf (w .sketch .params .t) (cellOf (w .sketch) (w .grid) j)
 -- A recording has none: what it leaves is held inside the crossing that follows, or after the call
 unfoldable pub zoomInside : World → Stage → ℕ → ℕ
 zoomInside w (recording key) j = 0
-zoomInside w (moving clock) j = cond (eqb (begins w clock) 0) (zoomNow w j) (zoomOf (w .sketch .params .t) (clearedAt w clock j))
+zoomInside w (moving clock) j = cond (eqb (begins w clock) 0) (zoomNow w j) (zoomOf (w .sketch .params .t) (insideAt w clock j))
 
 -- the highest that it holds inside these stages
 unfoldable pub zoomThrough : World → List Stage → ℕ → ℕ

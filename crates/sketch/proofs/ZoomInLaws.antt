@@ -18,9 +18,9 @@ use Rattle.cell.proofs.ZoomInLaws.{crosses-to}
 use Rattle.clock.specs.declared.SubWindowClock.{SubWindowClock}
 use Rattle.clock.specs.Clock.{nOf, tickOf, advanceOf}
 use Rattle.sketch.specs.declared.MicroCm.{MicroCm}
-use Rattle.sketch.specs.Sketch.{cellsOf, cellOf, keyCells, World, goesOn, recorded, moved, advanced}
+use Rattle.sketch.specs.Sketch.{cellsOf, cellOf, keyCells, World, goesOn, recorded, moved, begins, advanced}
 use Rattle.sketch.specs.Refusals.{allBelow, keyFits, refuseKey, refuseSketch, world, updateCall, updateAtCall, advanceCall}
-use Rattle.sketch.specs.ZoomIn.{begins, CrossesEach, GridZoomInMeaning}
+use Rattle.sketch.specs.ZoomIn.{CrossesEach, GridZoomInMeaning}
 use Rattle.sketch.proofs.SketchGates.{sketch-gate}
 use Rattle.sketch.proofs.ReadyLaws.{ready-of}
 use Rattle.sketch.proofs.KeyLaws.{key-cells-below}

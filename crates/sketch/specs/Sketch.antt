@@ -9,7 +9,7 @@ use Rattle.rounding.specs.Draws.{seeded}
 use Rattle.cell.specs.declared.MicroParams.{MicroParams}
 use Rattle.cell.specs.Cell.{depthOf}
 use Rattle.cell.specs.Insertion.{insertOf}
-use Rattle.cell.specs.Crossing.{crossOf}
+use Rattle.cell.specs.Crossing.{insideOf, crossOf}
 use Rattle.clock.specs.declared.SubWindowClock.{SubWindowClock}
 use Rattle.clock.specs.Clock.{nOf, tickOf, advanceOf, crossedOf, startOf}
 use Rattle.sketch.specs.declared.MicroCm.{MicroCm}
@@ -94,6 +94,20 @@ unfoldable pub moved : SubWindowClock → World → World
 moved clock w =
     let k = w .sketch in
     goesOn w clock (crossEach k (nOf clock) (crossedOf (k .clock) clock) (w .grid) (k .rounding .state))
+
+-- INSIDE A MOVE: how many sub-windows begin, the state that the j-th cell draws from, as the j cells before it left it, and what it then holds before it zooms in
+abbrev pub begins : World → SubWindowClock → ℕ
+begins w clock = crossedOf (w .sketch .clock) clock
+
+abbrev pub stateAt : World → SubWindowClock → ℕ → ℕ
+stateAt w clock j =
+    let k = w .sketch in
+    eachOf (crossCell k (nOf clock) (begins w clock)) (depthOf (k .params .t)) 0 j (w .grid) (k .rounding .state) .state
+
+abbrev pub insideAt : World → SubWindowClock → ℕ → List ℕ
+insideAt w clock j =
+    let k = w .sketch in
+    insideOf (k .params .t) (k .params .c) (nOf clock) (begins w clock) (cellOf k (w .grid) j) (stateAt w clock j) .bytes
 
 -- `update`: record, tick, then cross if n rose
 abbrev pub updated : List ℕ → World → World

@@ -4,31 +4,13 @@ use mathlib.Core.Path.{_≡_}
 use mathlib.Core.List.{List}
 use lib.ListN.{getD}
 use Rattle.laws.specs.Steps.{still}
-use Rattle.laws.specs.Passes.{eachOf}
 use Rattle.refusal.specs.declared.Verdict.the-variants.{Accepted}
-use Rattle.cell.specs.Cell.{depthOf}
-use Rattle.cell.specs.ZoomIn.{clearedOf, CrossesTo}
+use Rattle.cell.specs.ZoomIn.{CrossesTo}
 use Rattle.clock.specs.declared.SubWindowClock.{SubWindowClock}
-use Rattle.clock.specs.Clock.{nOf, tickOf, advanceOf, crossedOf}
+use Rattle.clock.specs.Clock.{nOf, tickOf, advanceOf}
 use Rattle.sketch.specs.declared.MicroCm.{MicroCm}
-use Rattle.sketch.specs.Sketch.{cellsOf, cellOf, World, goesOn, recorded, crossCell, moved, advanced}
+use Rattle.sketch.specs.Sketch.{cellsOf, cellOf, World, goesOn, recorded, moved, begins, stateAt, advanced}
 use Rattle.sketch.specs.Refusals.{world, updateCall, updateAtCall, advanceCall}
-
--- how many sub-windows begin in a move to this clock
-abbrev pub begins : World → SubWindowClock → ℕ
-begins w clock = crossedOf (w .sketch .clock) clock
-
--- the state that the j-th cell draws from in it: as the j cells before it left it
-abbrev pub stateAt : World → SubWindowClock → ℕ → ℕ
-stateAt w clock j =
-    let k = w .sketch in
-    eachOf (crossCell k (nOf clock) (begins w clock)) (depthOf (k .params .t)) 0 j (w .grid) (k .rounding .state) .state
-
--- the j-th cell inside it, when clearing is done
-abbrev pub clearedAt : World → SubWindowClock → ℕ → List ℕ
-clearedAt w clock j =
-    let k = w .sketch in
-    clearedOf (k .params .t) (k .params .c) (nOf clock) (begins w clock) (cellOf k (w .grid) j) (stateAt w clock j)
 
 -- EVERY CELL crosses in a move to this clock, which leaves this grid
 abbrev pub CrossesEach : World → SubWindowClock → List ℕ → Type 0

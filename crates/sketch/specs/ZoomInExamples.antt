@@ -6,9 +6,8 @@ use Rattle.cell.specs.BenchSheet.{cellWith}
 use Rattle.clock.specs.declared.SubWindowClock.{SubWindowClock}
 use Rattle.clock.specs.declared.SubWindowClock.the-variants.{CountBased, TimeBased}
 use Rattle.sketch.specs.declared.MicroCm.{MicroCm}
-use Rattle.sketch.specs.Sketch.{recorded}
+use Rattle.sketch.specs.Sketch.{recorded, insideAt}
 use Rattle.sketch.specs.Refusals.{world, updateCall, advanceCall}
-use Rattle.sketch.specs.ZoomIn.{clearedAt}
 
 abbrev pub withClock : SubWindowClock → ℕ → MicroCm
 withClock clock state = record { rows = 1; cols = 2; params = record { t = 1; c = 2 }; clock = clock; rounding = record { state = state } }
@@ -31,12 +30,12 @@ oneShort = cellWith 127 0 0 1 1 ++ cellWith 0 0 0 0 0
 
 pub record GridZoomInWorked : Type 0 where
   -- each cell draws from the state that the one before it left: from 16 the first shutter closes to 1, from there the second to 0
-  pub one-after-another : (clearedAt (world (withClock (timed 0) 16) twoShutters) (timed 1) 0 ≡ cellWith 1 0 0 1 0)
-      × (clearedAt (world (withClock (timed 0) 16) twoShutters) (timed 1) 1 ≡ cellWith 0 0 0 1 0)
+  pub one-after-another : (insideAt (world (withClock (timed 0) 16) twoShutters) (timed 1) 0 ≡ cellWith 1 0 0 1 0)
+      × (insideAt (world (withClock (timed 0) 16) twoShutters) (timed 1) 1 ≡ cellWith 0 0 0 1 0)
       × (advanceCall (withClock (timed 0) 16) 1 twoShutters .grid ≡ cellWith 2 0 0 0 0 ++ cellWith 0 0 0 0 0)
   -- two sub-windows begin, and the 200 that held both back is cleared: the first zooms in by 1, the second by 2, each by its own largest pixel
-  pub by-two : (clearedAt (world (withClock (timed 0) 1) twoHeldBack) (timed 2) 1 ≡ cellWith 40 0 0 3 0)
+  pub by-two : (insideAt (world (withClock (timed 0) 1) twoHeldBack) (timed 2) 1 ≡ cellWith 40 0 0 3 0)
       × (advanceCall (withClock (timed 0) 1) 2 twoHeldBack .grid ≡ cellWith 2 0 0 0 0 ++ cellWith 160 0 0 1 0)
   -- the item of an `update` comes first: 127 and a shutter that it fills make 128, which is too much to zoom in
-  pub item-first : (clearedAt (recorded (0 ∷ []) (world (withClock (counted 0) 1) oneShort)) (counted 1) 0 ≡ cellWith 128 0 0 1 0)
+  pub item-first : (insideAt (recorded (0 ∷ []) (world (withClock (counted 0) 1) oneShort)) (counted 1) 0 ≡ cellWith 128 0 0 1 0)
       × (updateCall (withClock (counted 0) 1) (0 ∷ []) oneShort .grid ≡ cellWith 128 0 0 1 0 ++ cellWith 0 0 0 0 0)
