@@ -294,7 +294,8 @@ uint64_t microscope_mean(const microscope_sketch *sketch, const uint32_t *key, s
 
 /*
  * Whether there is a cell at this row and column. Its bytes are the depth bytes of the grid from
- * (row x cols + col) x depth on.
+ * (row x cols + col) x depth on. For a display: how far it zooms in as a sub-window begins says
+ * microscope_cell_enter_sub_window.
  */
 uint64_t microscope_bucket_check(const microscope_sketch *sketch, uint64_t row, uint64_t col, const uint8_t *grid,
                                  size_t grid_bytes);

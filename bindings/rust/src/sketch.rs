@@ -226,7 +226,8 @@ impl MicroCm {
         Ok((found.unsound != 0).then_some(found.index as usize))
     }
 
-    /// The bytes of one cell: t + 2 pixels, the zoom, the shutter (4 bytes, low byte first), pad bytes.
+    /// The bytes of one cell: t + 2 pixels, the zoom, the shutter (4 bytes, low byte first), pad bytes. For a display: how far
+    /// a crossing zooms in, and what that does to the pixels, says [`calls::cell_enter_sub_window`].
     pub fn bucket_slice(&self, row: usize, col: usize) -> Result<&[u8], Error> {
         calls::bucket_check(&self.sketch, row as u64, col as u64, &self.grid)?;
         let depth = self.cell_bytes();

@@ -105,7 +105,8 @@ seen-on l cleared most i x most' w h e q = record {
   low = omega arith;
 }
 
-pub seen-end : (l : List ℕ) (cleared most i : ℕ) → Seen l cleared most i → length l ≤ i → most ≡ largest (length l - 1) (pixelOf (withPixel cleared 0 l))
+pub seen-end : (l : List ℕ) (cleared most i : ℕ) → Seen l cleared most i → length l ≤ i
+    → most ≡ largest (length l - 1) (pixelOf (withPixel cleared 0 l))
 unfolding largestOf largest
 seen-end [] cleared most i w h =
     let e : i ≡ 0 = omega (arith, w .low) in

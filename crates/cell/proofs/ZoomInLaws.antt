@@ -10,7 +10,8 @@ use lib.ListN.{length, getD}
 use lib.Seq.{getD-take, length-take-le}
 use lib.Pow.{pow-add}
 use native.Mathlib.Omega.{arith}
-use native.Mathlib.Nat.{pow-zero, pow-suc, one-le-pow, one-mul, mul-zero, mul-comm, mul-assoc, mul-le-mul-left, mul-le-mul-right, le-div-iff-mul-le, le-suc-iff, lt-of-not-le, not-le-of-lt, le-trans}
+use native.Mathlib.Nat.{pow-zero, pow-suc, one-le-pow, one-mul, mul-zero, mul-comm, mul-assoc, mul-le-mul-left, mul-le-mul-right}
+use native.Mathlib.Nat.{le-div-iff-mul-le, le-suc-iff, lt-of-not-le, not-le-of-lt, le-trans}
 use borrow.Author.Tests.{le-leb, leb-true, leb-false, eqb-true, eqb-false}
 use Rattle.laws.specs.Steps.{Step, still, leaving}
 use Rattle.laws.proofs.ChoiceLaws.{either}

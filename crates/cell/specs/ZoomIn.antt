@@ -4,7 +4,7 @@ use mathlib.Core.Path.{_≡_}
 use mathlib.Core.Bool.{cond}
 use mathlib.Core.List.{List}
 use lib.Dec.{leb}
-use lib.ListN.{length, drop}
+use lib.ListN.{length, drop, getD}
 use Rattle.laws.specs.Sums.{largest}
 use Rattle.laws.specs.Steps.{still}
 use Rattle.refusal.specs.declared.Verdict.the-variants.{Accepted}
@@ -59,11 +59,11 @@ pub record CrossesTo (t c n crossed : ℕ) (b : List ℕ) (σ : ℕ) (after : Li
 -- HOW FAR A CROSSING ZOOMS IN, whatever the seed, of every cell whose bytes are bytes
 pub record ZoomInMeaning : Type 0 where
   -- of the definition, the cell sound or not
-  pub crossing : (t c n crossed : ℕ) (b : List ℕ) (σ : ℕ) → Fit t c (length b) → ((i : ℕ) → pixelOf b i ≤ 255)
+  pub crossing : (t c n crossed : ℕ) (b : List ℕ) (σ : ℕ) → Fit t c (length b) → ((i : ℕ) → getD b i 0 ≤ 255)
       → CrossesTo t c n crossed b σ (crossOf t c n crossed b σ .bytes)
   pub nothing : (t c n : ℕ) (b : List ℕ) (σ : ℕ) → crossOf t c n 0 b σ ≡ still b σ
   -- of every call on one cell that is accepted
-  pub call : (p : MicroParams) (n crossed : ℕ) (b : List ℕ) (σ : ℕ) → ((i : ℕ) → pixelOf b i ≤ 255)
+  pub call : (p : MicroParams) (n crossed : ℕ) (b : List ℕ) (σ : ℕ) → ((i : ℕ) → getD b i 0 ≤ 255)
       → crossCall p n crossed b σ .answer .verdict ≡ Accepted
       → CrossesTo (p .t) (p .c) n crossed b σ (crossCall p n crossed b σ .bytes)
   -- the function gives such a number, and there is no other

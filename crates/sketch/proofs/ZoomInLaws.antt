@@ -98,7 +98,8 @@ unfolding updateCall
 update-crosses k key g low e j l =
     rw e (item-crosses k g low _ e key (key-accepted k key _ (judged k g low _ e .1)) (tickOf (k .clock)) j l)
 
-update-at-crosses : (k : MicroCm) (key : List ℕ) (reading : ℕ) (g : List ℕ) → ((i : ℕ) → getD g i 0 ≤ 255) → updateAtCall k key reading g .answer .verdict ≡ Accepted
+update-at-crosses : (k : MicroCm) (key : List ℕ) (reading : ℕ) (g : List ℕ) → ((i : ℕ) → getD g i 0 ≤ 255)
+    → updateAtCall k key reading g .answer .verdict ≡ Accepted
     → CrossesEach (world k g) (advanceOf (k .clock) reading) (advanced reading (world k g) .grid)
     × (updateAtCall k key reading g .grid ≡ recorded key (advanced reading (world k g)) .grid)
 unfolding updateAtCall

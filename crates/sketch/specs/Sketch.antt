@@ -95,7 +95,8 @@ moved clock w =
     let k = w .sketch in
     goesOn w clock (crossEach k (nOf clock) (crossedOf (k .clock) clock) (w .grid) (k .rounding .state))
 
--- INSIDE A MOVE: how many sub-windows begin, the state that the j-th cell draws from, as the j cells before it left it, and what it then holds before it zooms in
+-- INSIDE A MOVE: how many sub-windows begin, the state that the j-th cell draws from, as the j cells before it left it, and
+-- what it holds before it zooms in
 abbrev pub begins : World → SubWindowClock → ℕ
 begins w clock = crossedOf (w .sketch .clock) clock
 

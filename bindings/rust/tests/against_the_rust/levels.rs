@@ -7,28 +7,32 @@ use crate::judge;
 use crate::score::{Outcome, same};
 use std::cell::Cell;
 
-/// How many crossings were asked, and how many of them each mistake would have got wrong.
-#[derive(Clone, Copy)]
-struct Counts {
-    crossings: u64,
-    by_none: u64,
-    raised: u64,
-    zoomed_in: u64,
-    to_256: u64,
-    past_zoom: u64,
-    of_covered: u64,
-    from_zoom_before: u64,
-    before_clearing: u64,
-    one_level: u64,
-}
+/// What is counted of the crossings: three ways in which they may go, and the mistakes that would have got them wrong.
+const COUNTED: [&str; 9] = [
+    "by 0",
+    "raised by closing",
+    "zoomed in",
+    "wrong would be, 256 for 255",
+    "past the zoom",
+    "of covered pixels",
+    "from the zoom before",
+    "before clearing",
+    "one level at most",
+];
 
 thread_local! {
-    static COUNTS: Cell<Counts> = const {
-        Cell::new(Counts {
-            crossings: 0, by_none: 0, raised: 0, zoomed_in: 0,
-            to_256: 0, past_zoom: 0, of_covered: 0, from_zoom_before: 0, before_clearing: 0, one_level: 0,
-        })
-    };
+    static CROSSINGS: Cell<u64> = const { Cell::new(0) };
+    static COUNTS: Cell<[u64; COUNTED.len()]> = const { Cell::new([0; COUNTED.len()]) };
+}
+
+/// One crossing more, in which these came.
+fn count(came: [bool; COUNTED.len()]) {
+    let mut counts = COUNTS.get();
+    for (count, came) in counts.iter_mut().zip(came) {
+        *count += came as u64;
+    }
+    COUNTS.set(counts);
+    CROSSINGS.set(CROSSINGS.get() + 1);
 }
 
 /// A crossing of a cell of the Rust's.
@@ -137,17 +141,17 @@ impl Crossing {
     fn count(&self, before: &Held, closed: &Held, cleared: &Held, k: u64) {
         let (zoom, most) = (cleared.zoom, cleared.largest());
         let raised = zoom - before.zoom;
-        let mut counts = COUNTS.get();
-        counts.crossings += 1;
-        counts.raised += (raised > 0) as u64;
-        counts.zoomed_in += (k > 0) as u64;
-        counts.to_256 += (self.levels(zoom, most, 256) != k) as u64;
-        counts.past_zoom += (self.levels(zoom + 1, most, 255) != k) as u64;
-        counts.of_covered += (self.levels(zoom, self.covered(cleared), 255) != k) as u64;
-        counts.from_zoom_before += (raised + self.levels(before.zoom, most, 255) != k) as u64;
-        counts.before_clearing += (self.levels(zoom, closed.largest(), 255) != k) as u64;
-        counts.one_level += (self.levels(zoom.min(1), most, 255) != k) as u64;
-        COUNTS.set(counts);
+        count([
+            false,
+            raised > 0,
+            k > 0,
+            self.levels(zoom, most, 256) != k,
+            self.levels(zoom + 1, most, 255) != k,
+            self.levels(zoom, self.covered(cleared), 255) != k,
+            raised + self.levels(before.zoom, most, 255) != k,
+            self.levels(zoom, closed.largest(), 255) != k,
+            self.levels(zoom.min(1), most, 255) != k,
+        ]);
     }
 
     /// What the Rust is to leave of this cell of its own.
@@ -175,9 +179,7 @@ impl Crossing {
     /// Whether the Rust left the cell as T-11 says.
     pub fn kept(&self, before: &[u8], after: &judge::After) -> Outcome {
         if self.crossed == 0 {
-            let mut counts = COUNTS.get();
-            counts.by_none += 1;
-            COUNTS.set(counts);
+            count(std::array::from_fn(|at| at == 0));
             return same("a crossing of 0", (&after.cell[..], after.state), (before, self.state));
         }
         let right = self.reckoned(Held::of(self.t, before));
@@ -185,42 +187,16 @@ impl Crossing {
     }
 }
 
-/// What was counted, in one line, and whether each mistake would have been noticed.
+/// What was counted, in one line, and whether each of these came.
 pub fn told() -> (String, Outcome) {
-    let Counts {
-        crossings,
-        by_none,
-        raised,
-        zoomed_in,
-        to_256,
-        past_zoom,
-        of_covered,
-        from_zoom_before,
-        before_clearing,
-        one_level,
-    } = COUNTS.get();
-    let line = format!(
-        "crossings of a cell: {crossings}, and {by_none} by 0; raised by closing: {raised}, zoomed in: {zoomed_in}; wrong would be, \
-         256 for 255: {to_256}, past the zoom: {past_zoom}, of covered pixels: {of_covered}, from the zoom before: \
-         {from_zoom_before}, before clearing: {before_clearing}, one level at most: {one_level}"
-    );
-    let each = [
-        by_none,
-        raised,
-        zoomed_in,
-        to_256,
-        past_zoom,
-        of_covered,
-        from_zoom_before,
-        before_clearing,
-        one_level,
-    ];
+    let counts = COUNTS.get();
+    let each: Vec<String> = COUNTED
+        .iter()
+        .zip(counts)
+        .map(|(what, count)| format!("{what}: {count}"))
+        .collect();
     (
-        line,
-        same(
-            "whether each mistake would show in a crossing",
-            each.contains(&0),
-            false,
-        ),
+        format!("crossings of a cell: {}; {}", CROSSINGS.get(), each.join(", ")),
+        same("whether a way or a mistake never came", counts.contains(&0), false),
     )
 }
