@@ -14,7 +14,7 @@ use borrow.Author.Tests.{eq-eqb, ne-eqb}
 use Rattle.laws.specs.Sums.{largest}
 use Rattle.cell.specs.Cell.{pixelOf, withPixel}
 use Rattle.cell.specs.ZoomIn.{levelsUpTo}
-use Rattle.cell.proofs.ZoomInLaws.{only}
+use Rattle.cell.proofs.LargestLaws.{only}
 
 -- THE LEVELS: k of them were found to fit
 pub record Growing (c m z grown k : ℕ) : Type 0 where

@@ -1,18 +1,19 @@
 -- Each field of a cell stands in bytes of its own: it reads what was written to it, and no writing of another field changes it. Assumes nothing.
-use Prim.Native.Nat.{ℕ, _+_, _^_, _≤_, _<_}
+use Prim.Native.Nat.{ℕ, _+_, _-_, _^_, _≤_, _<_}
 use mathlib.Core.Path.{_≡_, refl, sym, ap, _∙_}
 use mathlib.Core.List.{List, _++_}
 use lib.ListN.{length, take, drop, getD, set, length-set, length-drop, length-append, take-append-drop, List·getD-append}
-use lib.Seq.{getD-set-same, getD-set-other, getD-drop, take-set-le, take-set-lt, drop-set-lt, take-at, drop-at, drop-drop}
+use lib.Seq.{getD-set-same, getD-set-other, getD-drop, take-set-le, take-set-lt, drop-set-lt, take-at, drop-at, drop-drop, ext-getD}
 use native.Mathlib.Omega.{arith}
+use native.Mathlib.Decide.{decLe, decLt}
 use native.Mathlib.Nat.{add-zero, mod-lt}
 use Rattle.laws.specs.Bytes.{bytesOf}
 use Rattle.laws.specs.Parts.{part}
-use Rattle.laws.proofs.PartLaws.{part-length, splice-length, splice-before, splice-dropped, splice-at-before}
+use Rattle.laws.proofs.PartLaws.{part-at, part-length, splice-length, splice-before, splice-dropped, splice-at-before}
 use Rattle.laws.proofs.ByteLaws.{bytes-length, bytes-small, no-bytes, number-splice}
 use Rattle.cell.proofs.SmallLaws.{small-set}
 use Rattle.laws.proofs.SmallLaws.{Small, small-append, small-take, small-drop}
-use Rattle.cell.specs.Cell.{pixelsOf, padAt, depthOf, slotOf, pixelsIn, pixelOf, zoomOf, shutterOf, withPixel, withPixels, withZoom, withShutter}
+use Rattle.cell.specs.Cell.{pixelsOf, shutterAt, padAt, depthOf, slotOf, pixelsIn, pixelOf, zoomOf, shutterOf, withPixel, withPixels, withZoom, withShutter}
 
 -- what every change of a cell keeps
 pub record Kept (t : ℕ) (b b' : List ℕ) : Type 0 where
@@ -162,3 +163,32 @@ module _ (t s : ℕ) (b : List ℕ) (size : length b ≡ depthOf t) where
     small = λ h. small-append (take (t + 3) b) (bytesOf 4 s ++ drop 4 (drop (t + 3) b)) (small-take (t + 3) b h)
         (small-append (bytesOf 4 s) (drop 4 (drop (t + 3) b)) (bytes-small 4 s) (small-drop 4 (drop (t + 3) b) (small-drop (t + 3) b h)));
   }
+
+-- A CELL IS KNOWN by its pixels, its zoom, its shutter, here an empty one, and its pads
+module _ (t : ℕ) (a b : List ℕ) (size-a : length a ≡ depthOf t) (size-b : length b ≡ depthOf t) where
+  empty-part : (l : List ℕ) → length l ≡ depthOf t → shutterOf t l ≡ 0 → bytesOf 4 0 ≡ part (shutterAt t) 4 l
+  unfolding shutterOf
+  empty-part l size e = no-bytes 4 (part (shutterAt t) 4 l) (part-length (shutterAt t) 4 l (omega arith)) e
+
+  same-shutter : shutterOf t a ≡ 0 → shutterOf t b ≡ 0 → (j : ℕ) → j < 4 → getD a (t + 3 + j) 0 ≡ getD b (t + 3 + j) 0
+  same-shutter e e' j l =
+      sym (part-at (t + 3) 4 a j l) ∙ ap (λ (p : List ℕ). getD p j 0) (sym (empty-part a size-a e) ∙ empty-part b size-b e') ∙ part-at (t + 3) 4 b j l
+
+  same-pads : drop (padAt t) a ≡ drop (padAt t) b → (j : ℕ) → getD a (t + 7 + j) 0 ≡ getD b (t + 7 + j) 0
+  same-pads e j = sym (getD-drop (t + 7) a j 0) ∙ ap (λ (p : List ℕ). getD p j 0) e ∙ getD-drop (t + 7) b j 0
+
+  pub same-cell : ((i : ℕ) → i < pixelsOf t → pixelOf a i ≡ pixelOf b i) → zoomOf t a ≡ zoomOf t b → shutterOf t a ≡ 0 → shutterOf t b ≡ 0
+      → drop (padAt t) a ≡ drop (padAt t) b → a ≡ b
+  same-cell pixels zoom e e' pads = ext-getD 0 a b (size-a ∙ sym size-b) (λ i l. by i (decLt i (t + 2)) (decLe i (t + 2)) (decLt i (t + 7)))
+    where
+      by : (i : ℕ) → Dec (i < t + 2) → Dec (i ≤ t + 2) → Dec (i < t + 7) → getD a i 0 ≡ getD b i 0
+      by i (yes h) q r = pixels i h
+      by i (no h) (yes q) r =
+          let at : i ≡ t + 2 = omega arith in
+          rw at zoom
+      by i (no h) (no q) (yes r) =
+          let at : i ≡ t + 3 + (i - (t + 3)) = omega arith in
+          rw at (same-shutter e e' (i - (t + 3)) (omega arith))
+      by i (no h) (no q) (no r) =
+          let at : i ≡ t + 7 + (i - (t + 7)) = omega arith in
+          rw at (same-pads pads (i - (t + 7)))

@@ -14,7 +14,9 @@ pub mod HeldLaws
 pub mod AtMostLaws
 pub mod SumsLaws
 pub mod CrossingLaws
+pub mod LengthLaws
 pub mod PixelLaws
+pub mod LargestLaws
 pub mod ZoomInLaws
 pub mod ZoomInWorked
 pub mod MergeLaws

@@ -2,17 +2,17 @@
 -- that fits, by induction on the zoom. Assumes nothing.
 use Prim.Native.Nat.{ℕ, zero, suc, _+_, _*_, _^_, _≤_, _<_}
 use mathlib.Core.Path.{_≡_, refl, sym, ap, _∙_}
-use mathlib.Core.Logic.{⊎-elim}
 use mathlib.Core.Bool.{true, false, true≢false}
 use mathlib.Core.List.{List, [], _∷_}
-use lib.Dec.{leb, eqb}
+use lib.Dec.{eqb}
 use lib.ListN.{length, getD}
 use lib.Seq.{getD-take, length-take-le}
 use lib.Pow.{pow-add}
 use native.Mathlib.Omega.{arith}
+use native.Mathlib.Decide.{ℕ-discrete}
 use native.Mathlib.Nat.{pow-zero, pow-suc, one-le-pow, one-mul, mul-zero, mul-comm, mul-assoc, mul-le-mul-left, mul-le-mul-right}
-use native.Mathlib.Nat.{le-div-iff-mul-le, le-suc-iff, lt-of-not-le, not-le-of-lt, le-trans}
-use borrow.Author.Tests.{le-leb, leb-true, leb-false, eqb-true, eqb-false}
+use native.Mathlib.Nat.{le-div-iff-mul-le, lt-of-not-le, le-trans}
+use borrow.Author.Tests.{le-leb, eqb-true, eqb-false}
 use Rattle.laws.specs.Steps.{Step, still, leaving}
 use Rattle.laws.proofs.ChoiceLaws.{either}
 use Rattle.laws.proofs.SmallLaws.{Small}
@@ -23,38 +23,15 @@ use Rattle.cell.specs.Cell.{pixelsOf, pixelsIn, pixelOf, zoomOf, shutter
 use Rattle.cell.specs.Crossing.{insideOf, ceilingOf, allAtMost, zoomedIn, zoomInFrom, zoomInOf, crossOf}
 use Rattle.cell.specs.Refusals.{crossCall}
 use Rattle.cell.specs.Workers.{Fit}
+use Rattle.cell.proofs.CellLaws.{same-cell}
 use Rattle.cell.proofs.JudgingLaws.{accepted-fit}
+use Rattle.cell.proofs.LargestLaws.{levels, only}
 use Rattle.cell.proofs.AtMostLaws.{ceiling-fits}
 use Rattle.cell.proofs.SumsLaws.{most-at}
 use Rattle.cell.proofs.CrossingLaws.{Quiet, inside-far, inside-quiet, zoomed-kept, zoomed-zoom, ZoomedIn, zoom-in-leaves}
+use Rattle.cell.proofs.LengthLaws.{cross-length}
 use Rattle.cell.proofs.PixelLaws.{emptied-pixel, zoomed-pixel}
-use Rattle.cell.specs.ZoomIn.{largestPixel, levelsUpTo, levelsIn, clearedOf, Largest, FallsBy, CrossesTo, ZoomInMeaning}
-
--- THE FUNCTION, and the three facts that fix it
-module _ (c m : ℕ) where
-  levels : (z : ℕ) → m ≤ 255 → Largest c m z (levelsUpTo c m z)
-  unfolding levelsUpTo
-  levels zero low = record { at-most = omega arith; fits = rw (pow-zero c, one-mul m) low; no-more = λ other l e. l }
-  levels (suc z) low =
-      let w : Largest c m z (levelsUpTo c m z) = levels z low in
-      either (Largest c m (suc z)) (leb (c ^ suc z * m) 255) (suc z) (levelsUpTo c m z)
-      (λ e. record { at-most = omega arith; fits = leb-true _ _ e; no-more = λ other l h. l })
-      (λ e. record {
-        at-most = omega (arith, w .at-most);
-        fits = w .fits;
-        no-more = λ other l h. ⊎-elim (λ q. w .no-more other q h) (λ q. absurd (not-le-of-lt (leb-false _ _ e) (rw q at h))) (le-suc-iff .0 l);
-      })
-
-  pub only : (z k : ℕ) → Largest c m z k → k ≡ levelsUpTo c m z
-  unfolding levelsUpTo
-  only zero k h = omega (arith, h .at-most)
-  only (suc z) k h =
-      either (λ (x : ℕ). k ≡ x) (leb (c ^ suc z * m) 255) (suc z) (levelsUpTo c m z)
-      (λ e. omega (arith, h .at-most, h .no-more (suc z) (omega arith) (leb-true _ _ e)))
-      (λ e. ⊎-elim
-      (λ q. only z k (record { at-most = q; fits = h .fits; no-more = λ other l. h .no-more other (omega arith) }))
-      (λ q. absurd (not-le-of-lt (leb-false _ _ e) (rw q at (h .fits))))
-      (le-suc-iff .0 (h .at-most)))
+use Rattle.cell.specs.ZoomIn.{largestPixel, levelsIn, clearedOf, Largest, FallsBy, CrossesTo, ZoomInMeaning}
 
 -- THE TEST: every pixel is at most floor(255 / c) just where c times the largest is at most 255
 all-at-most : (h : ℕ) (l : List ℕ) → ((i : ℕ) → i < length l → getD l i 0 ≤ h) → allAtMost h l ≡ true
@@ -222,6 +199,24 @@ nothing : (t c n : ℕ) (b : List ℕ) (σ : ℕ) → crossOf t c n 0 b σ ≡ s
 unfolding crossOf
 nothing t c n b σ = refl
 
+-- NO OTHER BYTES
+module _ (t c n crossed : ℕ) (b : List ℕ) (σ : ℕ) (fit : Fit t c (length b)) (small : Small b) (after : List ℕ) (long : length after ≡ length b) where
+  -- what falls by one k from one cell is one cell
+  same-fall : (k : ℕ) (cleared other : List ℕ) → length other ≡ length b → FallsBy t c k cleared after → FallsBy t c k cleared other → after ≡ other
+  same-fall k cleared other long' p q =
+      same-cell t after other (long ∙ fit .size-is) (long' ∙ fit .size-is) (λ i l. p .pixels i l ∙ sym (q .pixels i l)) (omega (arith, p .zoom, q .zoom))
+      (p .shutter) (q .shutter) (p .pads ∙ sym (q .pads))
+
+  closes : CrossesTo t c n crossed b σ after → after ≡ crossOf t c n crossed b σ .bytes
+  closes w = by (ℕ-discrete crossed 0)
+    where
+      by : Dec (crossed ≡ 0) → after ≡ crossOf t c n crossed b σ .bytes
+      by (yes e) = w .by-none e ∙ sym (crosses-to t c n crossed b σ fit small .by-none e)
+      by (no e) =
+          same-fall (levelsIn t c (clearedOf t c n crossed b σ)) (clearedOf t c n crossed b σ) (crossOf t c n crossed b σ .bytes)
+          (cross-length t c n crossed b σ fit) (w .by-some e)
+          (crosses-to t c n crossed b σ fit small .by-some e)
+
 call-crosses : (p : MicroParams) (n crossed : ℕ) (b : List ℕ) (σ : ℕ) → Small b → crossCall p n crossed b σ .answer .verdict ≡ Accepted
     → CrossesTo (p .t) (p .c) n crossed b σ (crossCall p n crossed b σ .bytes)
 unfolding crossCall
@@ -231,6 +226,7 @@ pub zoom-in-says : ZoomInMeaning
 zoom-in-says = record {
   crossing = λ t c n crossed b σ fit low. crosses-to t c n crossed b σ fit (λ i. omega (arith, low i));
   nothing = nothing;
+  closes = λ t c n crossed b σ fit low. closes t c n crossed b σ fit (λ i. omega (arith, low i));
   call = λ p n crossed b σ low. call-crosses p n crossed b σ (λ i. omega (arith, low i));
   levels = levels;
   only = only;

@@ -62,6 +62,9 @@ pub record ZoomInMeaning : Type 0 where
   pub crossing : (t c n crossed : ℕ) (b : List ℕ) (σ : ℕ) → Fit t c (length b) → ((i : ℕ) → getD b i 0 ≤ 255)
       → CrossesTo t c n crossed b σ (crossOf t c n crossed b σ .bytes)
   pub nothing : (t c n : ℕ) (b : List ℕ) (σ : ℕ) → crossOf t c n 0 b σ ≡ still b σ
+  -- this leaves nothing open: as many bytes of which it holds are the crossing's
+  pub closes : (t c n crossed : ℕ) (b : List ℕ) (σ : ℕ) → Fit t c (length b) → ((i : ℕ) → getD b i 0 ≤ 255) → (after : List ℕ) → length after ≡ length b
+      → CrossesTo t c n crossed b σ after → after ≡ crossOf t c n crossed b σ .bytes
   -- of every call on one cell that is accepted
   pub call : (p : MicroParams) (n crossed : ℕ) (b : List ℕ) (σ : ℕ) → ((i : ℕ) → getD b i 0 ≤ 255)
       → crossCall p n crossed b σ .answer .verdict ≡ Accepted

@@ -3,24 +3,24 @@ use Prim.Native.Nat.{ℕ, zero, suc, _+_, _*_, _≤_, _<_}
 use mathlib.Core.Path.{_≡_, refl, sym, ap, _∙_}
 use mathlib.Core.Bool.{true}
 use mathlib.Core.List.{List, [], _∷_}
-use lib.Dec.{ltb, eqb}
-use lib.ListN.{length, length-set, take-append-drop}
-use lib.Seq.{length-front}
+use lib.Dec.{ltb}
+use lib.ListN.{length, take-append-drop}
 use native.Mathlib.Omega.{arith}
 use borrow.Author.Tests.{ltb-true}
-use Rattle.laws.specs.Steps.{Step, still, leaving}
+use Rattle.laws.specs.Steps.{Step, still}
 use Rattle.laws.specs.Passes.{eachOf}
-use Rattle.laws.proofs.ChoiceLaws.{either, both-hold}
+use Rattle.laws.proofs.ChoiceLaws.{both-hold}
 use Rattle.laws.proofs.PartLaws.{part-length, splice-length, splice-part, piece-room, piece-other, pieces-splice}
 use Rattle.laws.proofs.PassLaws.{each-length, each-piece, each-holds}
 use Rattle.rounding.specs.Draws.{stateAfter}
 use Rattle.rounding.proofs.StateLaws.{after-add}
-use Rattle.cell.specs.Cell.{pixelsOf, zoomAt, depthOf, pixelsIn, zoomOf, withPixels, soundOf}
+use Rattle.cell.specs.Cell.{depthOf, soundOf}
 use Rattle.cell.specs.Insertion.{insertOf}
-use Rattle.cell.specs.Crossing.{insideOf, ceilingOf, allAtMost, timesEach, zoomedIn, zoomInFrom, zoomInOf, crossOf}
+use Rattle.cell.specs.Crossing.{crossOf}
 use Rattle.cell.specs.Workers.{Fit}
 use Rattle.cell.proofs.InsertionLaws.{inserted}
-use Rattle.cell.proofs.CrossingLaws.{inside-quiet, Crossed, crossed-leaves, times-length}
+use Rattle.cell.proofs.CrossingLaws.{Crossed, crossed-leaves}
+use Rattle.cell.proofs.LengthLaws.{cross-length}
 use Rattle.sketch.specs.declared.MicroCm.{MicroCm}
 use Rattle.sketch.specs.Sketch.{cellsOf, cellOf, insertAt, insertEach, crossCell, crossEach}
 use Rattle.sketch.specs.Refusals.{allBelow}
@@ -50,26 +50,6 @@ module _ (k : MicroCm) where
   cell-length g j room l =
       let d = depthOf (k .params .t) in
       part-length (j * d) d g (piece-room d (cellsOf k) j (length g) l room)
-
--- A CROSSING leaves as many bytes, whether the cell is sound or not
-zoomed-length : (t c z : ℕ) (b : List ℕ) → length (zoomedIn t c z b) ≡ length b
-unfolding zoomedIn
-zoomed-length t c z b = length-set (withPixels t (timesEach c (pixelsIn t b)) b) (zoomAt t) z
-    ∙ length-front b (timesEach c (pixelsIn t b)) (pixelsOf t) (times-length c (pixelsIn t b))
-
-zoom-in-length : (t c z : ℕ) (b : List ℕ) → length (zoomInFrom t c z b) ≡ length b
-unfolding zoomInFrom
-zoom-in-length t c zero b = refl
-zoom-in-length t c (suc z) b =
-    either (λ l. length l ≡ length b) (allAtMost (ceilingOf c) (pixelsIn t b)) (zoomInFrom t c z (zoomedIn t c z b)) b
-    (λ e. zoom-in-length t c z (zoomedIn t c z b) ∙ zoomed-length t c z b) (λ e. refl)
-
-pub cross-length : (t c n crossed : ℕ) (b : List ℕ) (σ : ℕ) → Fit t c (length b) → length (crossOf t c n crossed b σ .bytes) ≡ length b
-unfolding crossOf
-cross-length t c n crossed b σ fit =
-    let inside = insideOf t c n crossed b σ in
-    either (λ (s : Step). length (s .bytes) ≡ length b) (eqb crossed 0) (still b σ) (leaving inside (zoomInOf t c (inside .bytes))) (λ e. refl)
-    (λ e. zoom-in-length t c (zoomOf t (inside .bytes)) (inside .bytes) ∙ inside-quiet t c n crossed b σ fit .kept .long)
 
 -- settings that are accepted, and a cell's depth
 abbrev pub Fits : MicroCm → Type 0

@@ -23,7 +23,7 @@ abbrev pub twoShutters : List ℕ
 twoShutters = cellWith 0 0 0 1 1 ++ cellWith 0 0 0 1 1
 
 abbrev pub twoHeldBack : List ℕ
-twoHeldBack = cellWith 1 9 200 1 0 ++ cellWith 40 0 200 3 0
+twoHeldBack = cellWith 1 9 200 1 0 ++ cellWith 40 9 200 3 0
 
 abbrev pub oneShort : List ℕ
 oneShort = cellWith 127 0 0 1 1 ++ cellWith 0 0 0 0 0
