@@ -26,14 +26,12 @@ use Rattle.cell.specs.Workers.{Fit}
 use Rattle.cell.proofs.CellLaws.{same-cell}
 use Rattle.cell.proofs.JudgingLaws.{accepted-fit}
 use Rattle.cell.proofs.LargestLaws.{levels, only}
-use Rattle.cell.proofs.AtMostLaws.{ceiling-fits}
-use Rattle.cell.proofs.SumsLaws.{most-at}
 use Rattle.cell.proofs.CrossingLaws.{Quiet, inside-far, inside-quiet, zoomed-kept, zoomed-zoom, ZoomedIn, zoom-in-leaves}
 use Rattle.cell.proofs.LengthLaws.{cross-length}
 use Rattle.cell.proofs.PixelLaws.{emptied-pixel, zoomed-pixel}
 use Rattle.cell.specs.ZoomIn.{largestPixel, levelsIn, clearedOf, Largest, FallsBy, CrossesTo, ZoomInMeaning}
 
--- THE TEST: every pixel is at most floor(255 / c) just where c times the largest is at most 255
+-- THE TEST fails where c times the largest pixel is no byte
 all-at-most : (h : ℕ) (l : List ℕ) → ((i : ℕ) → i < length l → getD l i 0 ≤ h) → allAtMost h l ≡ true
 unfolding allAtMost
 all-at-most h [] each = refl
@@ -42,14 +40,6 @@ all-at-most h (x ∷ xs) each = rw (le-leb x h (each 0 (omega arith))) (all-at-m
 module _ (t c : ℕ) (b : List ℕ) (fit : Fit t c (length b)) where
   pixels-long : length (pixelsIn t b) ≡ pixelsOf t
   pixels-long = length-take-le (pixelsOf t) b (omega (arith, fit .size-is))
-
-  test-holds : allAtMost (ceilingOf c) (pixelsIn t b) ≡ true → c * largestPixel t b ≤ 255
-  test-holds e =
-      let each : (i : ℕ) → i ≤ t + 1 → pixelOf b i < ceilingOf c + 1 =
-      λ i l. omega (arith, rw (getD-take (pixelsOf t) b i 0 (omega arith)) at (most-at (ceilingOf c) (pixelsIn t b) i e))
-      in
-      let m : largestPixel t b < ceilingOf c + 1 = largest-lt (t + 1) (ceilingOf c + 1) (pixelOf b) each in
-      rw (mul-comm c (largestPixel t b)) (ceiling-fits c (largestPixel t b) (omega arith))
 
   test-fails : allAtMost (ceilingOf c) (pixelsIn t b) ≡ false → 255 < c * largestPixel t b
   unfolding ceilingOf
@@ -95,8 +85,8 @@ module _ (t c z : ℕ) (b : List ℕ) (fit : Fit t c (length b)) where
   next-largest = largest-times (t + 1) c (pixelOf b) (pixelOf next) (λ i l. next-pixel i (omega arith))
 
   -- by one level more than the next cell
-  one-more : (k : ℕ) (after : List ℕ) → c * largestPixel t b ≤ 255 → Falls t c z k next after → Falls t c (suc z) (suc k) b after
-  one-more k after fits w = record {
+  one-more : (k : ℕ) (after : List ℕ) → Falls t c z k next after → Falls t c (suc z) (suc k) b after
+  one-more k after w = record {
     largest-k = record {
       at-most = omega (arith, w .largest-k .at-most);
       fits = rw (power-on k (largestPixel t b), ← next-largest) (w .largest-k .fits);
@@ -128,7 +118,7 @@ zoom-in-falls t c (suc z) b fit small is =
     (λ e.
     let kept = zoomed-kept t c z b fit e (omega (arith, small (t + 2))) in
     let rest = zoom-in-falls t c z (zoomedIn t c z b) (rw (kept .long) fit) (kept .small small) (zoomed-zoom t c z b fit e) in
-    (suc (rest .0), one-more t c z b fit (rest .0) _ (test-holds t c b fit e) (rest .1)))
+    (suc (rest .0), one-more t c z b fit (rest .0) _ (rest .1)))
     (λ e. (0, stays t c (suc z) b is (largest-small t c b fit small) (no-level t c z b fit (test-fails t c b fit e))))
 
 -- k levels in, a pixel stands for as many items
