@@ -411,11 +411,12 @@ uint64_t microscope_cell_insert(uint8_t *cell, size_t cell_bytes, uint64_t t, ui
 /*
  * Moves a cell into sub-window new_n, which is `crossed` sub-windows on; with crossed 0 nothing changes.
  *
- * HOW FAR IT ZOOMS IN (document 02, T-11; proved, whatever the random state). First the shutter is closed, and the pixels of
- * the sub-windows that begin are cleared: by t + 2 or more, all of them. Closing raises Z by 1 if it credits a pixel that is
- * full. With Z and all t + 2 pixels as they are then, Z falls by exactly k, the largest k <= Z for which c^k times the
- * largest pixel is at most 255, and every pixel becomes c^k times itself: so it is worth as many items as before. All pixels
- * 0 gives k = Z. Of `largest`, c and Z, k is what this leaves:
+ * HOW FAR IT ZOOMS IN (document 02, T-11; proved, whatever the random state). First the shutter is closed into the pixel of
+ * the sub-window that ends, and the pixels of those that begin are cleared; by t + 2 or more the shutter and all pixels just
+ * become 0. Closing raises Z by 1 if it credits a pixel that is full and Z is below the largest zoom of the base. With Z and
+ * all t + 2 pixels as they are then, Z falls by exactly k, the largest k <= Z for which c^k times the largest pixel is at
+ * most 255, and every pixel becomes c^k times itself: so it is worth as many items as before. All pixels 0 gives k = Z. Of
+ * `largest`, c and Z, k is what this leaves:
  *
  *     for (k = 0; k < Z && largest * c <= 255; k++) largest *= c;
  *

@@ -515,10 +515,10 @@ pub fn cell_insert(
 
 /// Moves a cell into sub-window `new_n`, `crossed` sub-windows on; by 0 nothing changes.
 ///
-/// How far it zooms in (document 02, T-11): with the zoom Z and the t + 2 pixels as they are when the shutter is closed, which
-/// may raise Z by 1, and the pixels of the sub-windows that begin are cleared, Z falls by exactly k, the largest k ≤ Z for
-/// which c^k × the largest pixel ≤ 255. Every pixel becomes c^k × itself, so that it is worth as many items as before; all
-/// pixels 0 gives k = Z.
+/// How far it zooms in (document 02, T-11): with the zoom Z and the t + 2 pixels as they are once the shutter is closed, which
+/// may raise Z by 1, and the pixels of the sub-windows that begin are cleared (by t + 2 or more: once all are 0), Z falls by
+/// exactly k, the largest k ≤ Z for which c^k × the largest pixel ≤ 255. Every pixel becomes c^k × itself, so that it is worth
+/// as many items as before; all pixels 0 gives k = Z.
 ///
 /// ```
 /// use microscope::calls::{Change, cell_enter_sub_window};
