@@ -2,6 +2,7 @@ pub mod BenchItems
 pub mod SettingsExamples
 pub mod LayoutLaws
 pub mod PowerLaws
+pub mod CardLaws
 pub mod SmallLaws
 pub mod CellLaws
 pub mod SoundLaws

@@ -3,6 +3,7 @@ pub mod Insertion
 pub mod Crossing
 pub mod Merge
 pub mod Refusals
+pub mod Card
 pub mod ZoomIn
 pub mod Causes
 pub mod Named

@@ -47,20 +47,27 @@ pub fn unit_or_zero(c: u32, z: u8) -> u64
     power
 }
 
-// The largest z with c^z at most 2^32 - 1: the search stops at the first z whose next power passes it.
+// The largest z with c^z at most 2^32 - 1, as the card has it (document 02, T-03). No other base comes here: it is refused by
+// 2 before.
 pub fn max_zoom(c: u32) -> u8
     requires { ⌜ (2 ≤ c) × (c ≤ 256) ⌝ }
     ensures { λ r. ⌜ r ≡ maxZoom c ⌝ }
 {
-    let base = c as u64;
-    let mut z: u8 = 0;
-    let mut power: u64 = 1;
-    loop {
-        let next = power * base;
-        if next > 0xFFFF_FFFF {
-            break z;
-        }
-        power = next;
-        z += 1;
+    match c {
+        2 => 31,
+        3 => 20,
+        4 => 15,
+        5 => 13,
+        6 => 12,
+        7 => 11,
+        8..=9 => 10,
+        10..=11 => 9,
+        12..=15 => 8,
+        16..=23 => 7,
+        24..=40 => 6,
+        41..=84 => 5,
+        85..=255 => 4,
+        256 => 3,
+        _ => 0,
     }
 }
