@@ -389,7 +389,13 @@ uint64_t microscope_ask(const microscope_sketch *sketch, microscope_watch *watch
 /* How many bytes a cell takes: t + 7, rounded up to a multiple of 4. */
 uint64_t microscope_depth(uint64_t t, uint64_t c, uint64_t *depth);
 
-/* The largest zoom z of a base: c^z is at most 2^32 - 1. */
+/*
+ * The largest zoom of a base, its ceiling: the largest z with c^z at most 2^32 - 1. There a full pixel drops its unit. The
+ * card (document 02, T-03; proved for every base):
+ *
+ *     c         2   3   4   5   6   7  8-9  10-11  12-15  16-23  24-40  41-84  85-255  256
+ *     ceiling  31  20  15  13  12  11   10      9      8      7      6      5       4    3
+ */
 uint64_t microscope_base_max_zoom(uint64_t c, uint64_t *zoom);
 
 /* Whether a cell is sound: its zoom at most the largest, its shutter below c^Z. */

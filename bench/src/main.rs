@@ -339,5 +339,16 @@ fn main() {
         merges("merge", shape, "");
         alone(shape);
     }
+    // Bases whose units are no shifts: the next one, one in the middle, the last.
+    for c in [3, 16, 256] {
+        let shape = Shape { c, ..shape };
+        updates("uniform keys", shape, Keys::Uniform, 200_000, "");
+        updates("skewed keys", shape, Keys::Skewed, 200_000, "");
+        updates("one key", shape, Keys::One, 200_000, "");
+        crossings("crossing", shape, "");
+        readings("reading", shape, "");
+        merges("merge", shape, "");
+        alone(shape);
+    }
     beside_readings(shape);
 }

@@ -470,7 +470,19 @@ pub fn depth(t: u64, c: u64, depth: &mut u64) -> Result<(), Refusal> {
     told(unsafe { microscope_depth(t, c, depth) })
 }
 
-/// The largest zoom of a base.
+/// The largest zoom of a base, its ceiling: the largest z with c^z ≤ 2^32 − 1. There a full pixel drops its unit. The card
+/// (document 02, T-03; proved for every base):
+///
+/// | c | 2 | 3 | 4 | 5 | 6 | 7 | 8-9 | 10-11 | 12-15 | 16-23 | 24-40 | 41-84 | 85-255 | 256 |
+/// |---|---|---|---|---|---|---|---|---|---|---|---|---|---|---|
+/// | ceiling | 31 | 20 | 15 | 13 | 12 | 11 | 10 | 9 | 8 | 7 | 6 | 5 | 4 | 3 |
+///
+/// ```
+/// let mut zoom = 0;
+/// microscope::calls::base_max_zoom(10, &mut zoom)?;
+/// assert_eq!(zoom, 9);
+/// # Ok::<(), microscope::Refusal>(())
+/// ```
 pub fn base_max_zoom(c: u64, zoom: &mut u64) -> Result<(), Refusal> {
     // SAFETY: zoom is borrowed exclusively.
     told(unsafe { microscope_base_max_zoom(c, zoom) })

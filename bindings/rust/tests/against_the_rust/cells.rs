@@ -146,7 +146,10 @@ fn worked(c: u16, before: ([u8; 3], u8, u32), n: u64, by: u64, after: ([u8; 3], 
     same_bytes("the cell worked by hand", &left.cell, &bytes(after))
 }
 
-pub const ALL: [(&str, fn() -> Outcome); 1] = [("how far a crossing zooms in", crossings)];
+pub const ALL: [(&str, fn() -> Outcome); 2] = [
+    ("how far a crossing zooms in", crossings),
+    ("every base up to its ceiling and above", ceilings),
+];
 
 fn crossings() -> Outcome {
     worked(2, ([127, 0, 0], 1, 0), 1, 1, ([254, 0, 0], 0, 0))?;
@@ -162,10 +165,28 @@ fn crossings() -> Outcome {
     worked(2, ([1, 0, 0], 1, 1), 1, 0, ([1, 0, 0], 1, 1))
 }
 
-fn merge(dice: &mut Dice, told: &Told, n: u64, mut src: Vec<u8>) -> Outcome {
-    if dice.chance(10) && told.t <= 4096 && src.len() >= shutter_at(told.t as usize).end {
-        spoil_cell(dice, told.t, &mut src);
+/// Document 02, T-03: a full pixel that is to have one more, at every base and zoom.
+fn ceilings() -> Outcome {
+    for c in 2..=256 {
+        for zoom in 0..=judge::max_zoom(c) + 1 {
+            let one_short = (judge::unit(c, zoom) - 1) as u32;
+            let full = layout::from_theirs(1, judge::cell(1, c, &[255, 1, 1], zoom, one_short, 0));
+            let told = Told {
+                t: 1,
+                c: c as u64,
+                cell: full.clone(),
+                state: 2,
+            };
+            settings(&told)?;
+            insert(&told, 0)?;
+            enter(&told, 1, 1)?;
+            merge(&told, 0, full)?;
+        }
     }
+    Ok(())
+}
+
+fn merge(told: &Told, n: u64, src: Vec<u8>) -> Outcome {
     let lent = src.clone();
     let causes = numbers::change(told.t, told.c, told.state, None, &[&told.cell, &src]);
     left(
@@ -175,6 +196,13 @@ fn merge(dice: &mut Dice, told: &Told, n: u64, mut src: Vec<u8>) -> Outcome {
         |t, c| judge::merge(t, c, n, told.state, &told.theirs(), &layout::to_theirs(told.t, &src)),
     )?;
     unchanged("the cell merged from", &lent, &src)
+}
+
+fn spoiled_at_times(dice: &mut Dice, told: &Told, mut src: Vec<u8>) -> Vec<u8> {
+    if dice.chance(10) && told.t <= 4096 && src.len() >= shutter_at(told.t as usize).end {
+        spoil_cell(dice, told.t, &mut src);
+    }
+    src
 }
 
 fn fields(told: &Told, n: u64) -> Outcome {
@@ -226,7 +254,7 @@ pub fn story(dice: &mut Dice) -> Outcome {
         let outcome = match dice.below(10) {
             0..4 => insert(&told, n),
             4..7 => enter(&told, n, crossed(dice, &told, n)),
-            7 | 8 => merge(dice, &told, n, src),
+            7 | 8 => merge(&told, n, spoiled_at_times(dice, &told, src)),
             _ => fields(&told, n).and_then(|()| settings(&told)),
         };
         outcome.map_err(|what| format!("{what}; t {}, c {}, n {n}, cell {:?}", told.t, told.c, told.cell))?;
