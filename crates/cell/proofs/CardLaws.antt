@@ -1,4 +1,5 @@
--- One test, computed over the whole card, and one law: a line that passes it gives max_zoom for each of its bases, as powers rise with the base. Assumes nothing.
+-- One test, computed over the whole card, and one law: a line that passes it gives max_zoom for each of its bases, as powers rise with the
+-- base. Assumes nothing.
 use Prim.Native.Nat.{ℕ, zero, suc, _-_, _^_, _≤_, _<_}
 use mathlib.Core.Path.{_≡_, refl, sym, _∙_}
 use mathlib.Core.Bool.{Bool, true, false, cond, _&&_, true≢false}
@@ -27,8 +28,8 @@ goesOn next [] = eqb next 257
 goesOn next (l ∷ lines) = eqb (l .first) next && (leb next (l .last) && (right l && goesOn (suc (l .last)) lines))
 
 -- ONE LINE
-stands-up : (l : Line) (c : ℕ) → stands l c ≡ true → (l .first ≤ c) × (c ≤ l .last)
-stands-up l c e =
+stands-where : (l : Line) (c : ℕ) → stands l c ≡ true → (l .first ≤ c) × (c ≤ l .last)
+stands-where l c e =
     let q = both-hold _ _ e in
     (leb-true _ _ (q .0), leb-true _ _ (q .1))
 
@@ -85,8 +86,10 @@ found (l ∷ lines) next low e c from to =
     let q = head-of next l lines e in
     let begun : l .first ≤ c = rw (q .begins) from in
     either (λ z. z ≡ maxZoom c) (stands l c) (l .gives) (lookUp lines c)
-    (λ h. line-gives l (rw (q .begins) low) (q .passed) c begun (stands-up l c h .1))
-    (λ h. found lines (suc (l .last)) (omega (arith, q .ends)) (q .rest) c (lt-of-not-le (λ ends. true≢false (sym (stands-in l c begun ends) ∙ h))) to)
+    (λ h. line-gives l (rw (q .begins) low) (q .passed) c begun (stands-where l c h .1))
+    (λ h.
+    let past : l .last < c = lt-of-not-le (λ ends. true≢false (sym (stands-in l c begun ends) ∙ h)) in
+    found lines (suc (l .last)) (omega (arith, q .ends)) (q .rest) c past to)
 
 -- any other number stands in none
 none : (lines : List Line) (next : ℕ) → goesOn next lines ≡ true → (c : ℕ) → (next ≤ c → 256 < c) → lookUp lines c ≡ 0
@@ -96,7 +99,7 @@ none (l ∷ lines) next e c out =
     let q = head-of next l lines e in
     either (λ z. z ≡ 0) (stands l c) (l .gives) (lookUp lines c)
     (λ h.
-    let s = stands-up l c h in
+    let s = stands-where l c h in
     let far : 256 < c = out (rw (q .begins) at (s .0)) in
     absurd (not-le-of-lt far (omega (arith, s .1, limit lines (suc (l .last)) (q .rest)))))
     (λ h. none lines (suc (l .last)) (q .rest) c (λ from. out (omega (arith, q .ends))))
