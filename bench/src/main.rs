@@ -311,44 +311,44 @@ fn beside_readings(shape: Shape) {
     askings("asking, 64 codes", &ours, shape, 64, "1.1");
 }
 
+fn updates_of_all_keys(shape: Shape, calls: usize, aim: &str) {
+    updates("uniform keys", shape, Keys::Uniform, calls, aim);
+    updates("skewed keys", shape, Keys::Skewed, calls, aim);
+    updates("one key", shape, Keys::One, calls, aim);
+}
+
+/// With the aims of a crossing, a reading and a merge.
+fn all_but_updates(shape: Shape, [crossing, reading, merge]: [&str; 3]) {
+    crossings("crossing", shape, crossing);
+    readings("reading", shape, reading);
+    merges("merge", shape, merge);
+    alone(shape);
+}
+
 fn main() {
     println!("| call | grid | ours, ns | the Rust, ns | ratio | aim |");
     println!("|---|---|---|---|---|---|");
     let shape = Shape { rows: 4, cols: 1024, t: 12, c: 2, length: 4096 };
-    updates("uniform keys", shape, Keys::Uniform, 200_000, "0.9");
-    updates("skewed keys", shape, Keys::Skewed, 200_000, "0.9");
-    updates("one key", shape, Keys::One, 200_000, "0.9");
+    updates_of_all_keys(shape, 200_000, "0.9");
     updates_at("uniform keys", shape, Keys::Uniform, 200_000, "");
-    crossings("crossing", shape, "1.0");
-    readings("reading", shape, "0.5");
-    merges("merge", shape, "0.5");
-    alone(shape);
+    all_but_updates(shape, ["1.0", "0.5", "0.5"]);
     for (rows, cols, t) in [(4, 1024, 1), (4, 16, 4096), (1, 1024, 12), (128, 2, 12), (4, 65536, 12)] {
         let shape = Shape { rows, cols, t, ..shape };
         // Fewer items for grids that cross slowly.
         let calls = if cols == 65536 { 20_000 } else { 100_000 };
         // One row is where a call's own cost shows most.
-        let aim = if rows == 1 { "1.0" } else { "" };
-        updates("uniform keys", shape, Keys::Uniform, calls, aim);
         if rows == 1 {
-            updates("skewed keys", shape, Keys::Skewed, calls, aim);
-            updates("one key", shape, Keys::One, calls, aim);
+            updates_of_all_keys(shape, calls, "1.0");
+        } else {
+            updates("uniform keys", shape, Keys::Uniform, calls, "");
         }
-        crossings("crossing", shape, "");
-        readings("reading", shape, "");
-        merges("merge", shape, "");
-        alone(shape);
+        all_but_updates(shape, [""; 3]);
     }
     // Bases whose units are no shifts: the next one, one in the middle, the last.
     for c in [3, 16, 256] {
         let shape = Shape { c, ..shape };
-        updates("uniform keys", shape, Keys::Uniform, 200_000, "");
-        updates("skewed keys", shape, Keys::Skewed, 200_000, "");
-        updates("one key", shape, Keys::One, 200_000, "");
-        crossings("crossing", shape, "");
-        readings("reading", shape, "");
-        merges("merge", shape, "");
-        alone(shape);
+        updates_of_all_keys(shape, 200_000, "");
+        all_but_updates(shape, [""; 3]);
     }
     beside_readings(shape);
 }

@@ -168,11 +168,11 @@ fn settle(sums: &mut [u32], zoom: u8, c: u32, state: u64) -> Summed
     ensures { λ r. ⌜ settledOf (now (sums .exit)) r ≡ settleOf c zoom (now (sums .entry)) state ⌝ }
     ensures { λ r. ⌜ (allAtMost 255 (now (sums .exit)) ≡ true) × (r .draws ≤ 31 * 4098) × (r .zoom ≤ maxZoom c) ⌝ }
 {
+    let top = power::max_zoom(c);
     let mut target = zoom;
     let mut after = state;
     let mut draws: u32 = 0;
     while !all_fit(&sums[..]) {
-        let top = power::max_zoom(c);
         if top <= target {
             cut_each(sums);
             return Summed {

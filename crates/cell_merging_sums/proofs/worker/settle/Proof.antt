@@ -3,25 +3,26 @@ use Rattle.cell_merging_sums.proofs.SumCases.{Settling, settling-begin,
 use Rattle.cell_merging_sums.proofs.SumCases.{settling-less, settling-fits, settling-on, settling-fit, settling-few}
 use Rattle.cell.proofs.AtMostLaws.{room-known}
 use Prim.Native.Nat.{_-_}
+use mathlib.Core.Path.{_≡_}
 use Rattle.cell.specs.Cell.{maxZoom}
 use borrow.Author.Needs.{needs}
 use Rattle.cell_merging_sums.proofs.worker.settle.Statement.{statement}
 use Rattle.cell_merging_sums.proofs.worker.settle.Tie as tie
 
 abbrev Inv-loop : tie.InvT-loop
-Inv-loop sums₀ zoom c state target₀ after₀ draws₀ sums target after draws = Settling c zoom sums₀ state sums after draws target
+Inv-loop sums₀ zoom c state top target₀ after₀ draws₀ sums target after draws = Settling c zoom sums₀ state sums after draws target × (top ≡ maxZoom c)
 
 abbrev μ-loop : tie.MeasureT-loop
-μ-loop sums₀ zoom c state target₀ after₀ draws₀ sums target after draws = maxZoom c - target
-
-loop-holds : tie.Need-loop-holds Inv-loop μ-loop
-loop-holds c = search (settling-begin, needs)
-
-all-fit-requires : tie.Need-all-fit-requires Inv-loop μ-loop
-all-fit-requires c κs = search needs
+μ-loop sums₀ zoom c state top target₀ after₀ draws₀ sums target after draws = maxZoom c - target
 
 max-zoom-requires : tie.Need-max-zoom-requires Inv-loop μ-loop
 max-zoom-requires c κs = search needs
+
+loop-holds : tie.Need-loop-holds Inv-loop μ-loop
+loop-holds c = (search (settling-begin, needs), search needs)
+
+all-fit-requires : tie.Need-all-fit-requires Inv-loop μ-loop
+all-fit-requires c κs = search needs
 
 cut-each-requires : tie.Need-cut-each-requires Inv-loop μ-loop
 cut-each-requires c κs = search needs
@@ -45,7 +46,7 @@ loop-less : tie.Need-loop-less Inv-loop μ-loop
 loop-less c = search (settling-less, needs)
 
 loop-again : tie.Need-loop-again Inv-loop μ-loop
-loop-again c = search (settling-on, needs)
+loop-again c = (search (settling-on, needs), search needs)
 
 same-length-2 : tie.Need-same-length-2 Inv-loop μ-loop
 same-length-2 c = search needs
@@ -59,9 +60,9 @@ settle-spec =
     (tie.spec
     Inv-loop
     μ-loop
+    max-zoom-requires
     loop-holds
     all-fit-requires
-    max-zoom-requires
     cut-each-requires
     same-length
     returns
