@@ -85,7 +85,7 @@ module _ (c i power : ℕ) (w : Climbing c i power) (base : 2 ≤ c) where
   }
 
   -- each that follows holds as the code leaves a loop
-  pub climbing-stops : 2 ^ 32 - 1 < power * c → i ≡ maxZoom c
+  climbing-stops : 2 ^ 32 - 1 < power * c → i ≡ maxZoom c
   unfolding maxZoom
   climbing-stops h = highest-unique c base i (rw (w .found) at (w .fits)) (rw next-is at h)
 
