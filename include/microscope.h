@@ -390,7 +390,7 @@ uint64_t microscope_ask(const microscope_sketch *sketch, microscope_watch *watch
 uint64_t microscope_depth(uint64_t t, uint64_t c, uint64_t *depth);
 
 /*
- * The largest zoom of a base, its ceiling: the largest z with c^z at most 2^32 - 1. There a full pixel drops its unit. The
+ * The largest zoom of a base, its ceiling: the largest z with c^z at most 2^32 - 1. At it a full pixel drops its unit. The
  * card (document 02, T-03; proved for every base):
  *
  *     c         2   3   4   5   6   7  8-9  10-11  12-15  16-23  24-40  41-84  85-255  256

@@ -93,7 +93,7 @@ static void full_cell(uint8_t cell[DEPTH], uint64_t zoom, uint64_t shutter) {
     }
 }
 
-/* c^zoom - 1 items, one short of a unit; c^zoom fits 64 bits up to one zoom above the ceiling. */
+/* c^zoom - 1 items, one short of a unit. */
 static uint64_t one_short(uint64_t c, uint64_t zoom) {
     uint64_t unit = 1;
     while (zoom-- > 0) {
@@ -102,7 +102,7 @@ static uint64_t one_short(uint64_t c, uint64_t zoom) {
     return unit - 1;
 }
 
-/* What a call must do: 14 above the ceiling; there the unit is dropped, or the sum cut; below it the zoom is raised. */
+/* What a call must do: 14 above the ceiling; at it drop the unit, or cut the sum; below it raise the zoom. */
 enum { JUDGED, INSERTED, CLOSED, MERGED, CALLS };
 static const char *const names[CALLS] = {"judged", "inserted", "closed", "merged"};
 

@@ -470,7 +470,7 @@ pub fn depth(t: u64, c: u64, depth: &mut u64) -> Result<(), Refusal> {
     told(unsafe { microscope_depth(t, c, depth) })
 }
 
-/// The largest zoom of a base, its ceiling: the largest z with c^z ≤ 2^32 − 1. There a full pixel drops its unit. The card
+/// The largest zoom of a base, its ceiling: the largest z with c^z ≤ 2^32 − 1. At it a full pixel drops its unit. The card
 /// (document 02, T-03; proved for every base):
 ///
 /// | c | 2 | 3 | 4 | 5 | 6 | 7 | 8-9 | 10-11 | 12-15 | 16-23 | 24-40 | 41-84 | 85-255 | 256 |
