@@ -2,6 +2,7 @@
 use crate::asking;
 use crate::files;
 use crate::watching;
+use bench_tool_sketches::card;
 use bench_tool_sketches::cases;
 use bench_tool_sketches::fresh;
 use bench_tool_sketches::items;
@@ -135,6 +136,10 @@ pub fn run(
         Kind::New => fresh::new(line, grids, shelf),
         Kind::Help => {
             usage::help();
+            shelf
+        }
+        Kind::Card => {
+            card::card();
             shelf
         }
         Kind::Say => {

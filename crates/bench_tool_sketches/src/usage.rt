@@ -22,6 +22,7 @@ pub enum Kind {
     SetClock,
     SetState,
     SetGrid,
+    Card,
     Say,
     Help,
     Unknown,
@@ -100,6 +101,9 @@ fn making(name: &[u8]) -> Kind {
     if check::same(name, b"setgrid") {
         return Kind::SetGrid;
     }
+    if check::same(name, b"card") {
+        return Kind::Card;
+    }
     if check::same(name, b"say") {
         return Kind::Say;
     }
@@ -155,6 +159,7 @@ fn making_form(kind: Kind) {
         Kind::SetClock => print::text(b"setclock ID VALUE"),
         Kind::SetState => print::text(b"setstate ID VALUE"),
         Kind::SetGrid => print::text(b"setgrid ID HEX, two digits for each byte of the grid"),
+        Kind::Card => print::text(b"card"),
         Kind::Say => print::text(b"say WORDS"),
         Kind::Help => print::text(b"help"),
         _ => print::text(b"a command; help lists them"),
@@ -202,6 +207,7 @@ pub fn help() {
     line(Kind::SetClock);
     line(Kind::SetState);
     line(Kind::SetGrid);
+    line(Kind::Card);
     line(Kind::Say);
     line(Kind::Help);
 }
