@@ -12,7 +12,7 @@ use borrow.Author.Tests.{ltb-true, ltb-false}
 use Rattle.laws.specs.Steps.{Step, still}
 use Rattle.laws.proofs.ChoiceLaws.{either}
 use Rattle.cell.specs.Cell.{pixelsOf, slotOf, pixelsIn, pixelOf, zoomOf, shutterOf, unitOf, withPixel, withShutter, maxZoom}
-use Rattle.cell.specs.Insertion.{divideEach, zoomOutOf, creditOf, insertOf}
+use Rattle.cell.specs.Insertion.{divideEach, zoomOutOf, dropped, creditOf, insertOf}
 use Rattle.cell.specs.Workers.{Fit}
 use Rattle.laws.proofs.SmallLaws.{Small}
 use Rattle.cell.proofs.CellLaws.{slot-inside, with-pixel-zoom, with-shutter-shutter, with-shutter-pixel, with-shutter-zoom, with-shutter-kept}
@@ -56,9 +56,9 @@ module _ (t c slot P : ℕ) (b : List ℕ) (σ : ℕ) (fit : Fit t c (length b))
       → zoomOf t (creditOf t c slot b σ .bytes) ≤ P → F (zoomOf t (creditOf t c slot b σ .bytes)) (pixelOf (creditOf t c slot b σ .bytes))
   unfolding creditOf
   credit-keeps top F more out =
-      either Kept (ltb (pixelOf b slot) 255) (still bumped σ) (cond (ltb (zoomOf t b) (maxZoom c)) (zoomOutOf t c slot b σ) (still b σ))
+      either Kept (ltb (pixelOf b slot) 255) (still bumped σ) (cond (ltb (zoomOf t b) (maxZoom c)) (zoomOutOf t c slot b σ) (dropped b σ))
       (λ e l. rw (with-pixel-zoom t slot (pixelOf b slot + 1) b inside) (more (pixelOf bumped) bumped-is))
-      (λ e. either Kept (ltb (zoomOf t b) (maxZoom c)) (zoomOutOf t c slot b σ) (still b σ)
+      (λ e. either Kept (ltb (zoomOf t b) (maxZoom c)) (zoomOutOf t c slot b σ) (dropped b σ)
       (λ e' l. let z : zoomOf t zoomed ≡ suc (zoomOf t b) = zoom-out-zoom t c slot b σ fit ∙ add-one (zoomOf t b) in
       rw z (out (pixelOf bumped) (pixelOf zoomed) (more (pixelOf bumped) bumped-is) (rw z at l) (out-divides (ltb-false (pixelOf b slot) 255 e))))
       (λ e' l. absurd (omega (arith, ltb-false (zoomOf t b) (maxZoom c) e'))))

@@ -56,7 +56,7 @@ module _ {t c P n : ℕ} {x : ℕ → ℕ} {b : List ℕ} (top : P < maxZoom c) 
   pub close-holds : Closed (closeOf t c (slotOf t n) b σ)
   unfolding closeOf
   close-holds =
-      either Closed (eqb (coin .value) 0) (made (withShutter t 0 b) (coin .state) (coin .draws))
+      either Closed (eqb (coin .value) 0) (made (withShutter t 0 b) (coin .state) (coin .draws) 0)
       (later (coin .draws) (creditOf t c (slotOf t n) (withShutter t 0 b) (coin .state))) (λ e l. down) (λ e. up (eqb-false _ _ e))
 
 -- CLEAR, of k sub-windows

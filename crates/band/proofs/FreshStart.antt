@@ -31,9 +31,9 @@ module _ (S : Settings) (seed : ℕ) (lent : List ℕ) where
   pub start-length : verdict ≡ Accepted → length lent ≡ bytes
   start-length e = eqb-true _ _ (not-false _ (not-refused 6 _ _ (settings-first S _ e .0) .0))
 
-  -- and it gives the very sketch and grid that the list starts from, with no draw
+  -- and it gives the very sketch and grid that the list starts from, with no draw and no loss
   pub fresh-start : verdict ≡ Accepted
-      → start ≡ record { answer = record { verdict = Accepted; sketch = fresh S seed .sketch; draws = 0 }; grid = fresh S seed .grid }
+      → start ≡ record { answer = record { verdict = Accepted; sketch = fresh S seed .sketch; draws = 0; lost = 0 }; grid = fresh S seed .grid }
   unfolding freshCall
   fresh-start e = rw e refl
 

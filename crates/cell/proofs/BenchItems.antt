@@ -25,7 +25,7 @@ unfolding roundedDiv
 none τ = refl
 
 -- an even draw takes 511 up to 256, which does not fit a byte either: the zoom is raised once more
-half-up : (σ : ℕ) → yielded (nextState σ) % 2 ≡ 0 → divideEach 2 (511 ∷ 0 ∷ 0 ∷ []) σ ≡ made (256 ∷ 0 ∷ 0 ∷ []) (nextState σ) 1
+half-up : (σ : ℕ) → yielded (nextState σ) % 2 ≡ 0 → divideEach 2 (511 ∷ 0 ∷ 0 ∷ []) σ ≡ made (256 ∷ 0 ∷ 0 ∷ []) (nextState σ) 1 0
 unfolding divideEach
 half-up σ e =
     let up : roundedDiv 511 2 σ ≡ record { value = 256; state = nextState σ; draws = 1 } =

@@ -38,6 +38,8 @@ pub record Quiet (t c : ℕ) (b : List ℕ) (σ : ℕ) (s : Step) : Type 0 where
   pub zoom-le : zoomOf t (s .bytes) ≤ zoomOf t b + 1
   pub state : s .state ≡ stateAfter (s .draws) σ
   pub draws : s .draws ≤ t + 3
+  pub lost : s .lost ≤ 1
+  pub lost-below : zoomOf t b < maxZoom c → s .lost ≡ 0
 
 -- CLOSE
 module _ (t c slot : ℕ) (b : List ℕ) (σ : ℕ) (fit : Fit t c (length b)) (inside : slot < pixelsOf t) where
@@ -59,7 +61,7 @@ module _ (t c slot : ℕ) (b : List ℕ) (σ : ℕ) (fit : Fit t c (length b)) (
   pub closed : Quiet t c b σ (closeOf t c slot b σ)
   unfolding closeOf
   closed =
-      either (Quiet t c b σ) (eqb (rounded .value) 0) (made (withShutter t 0 b) (rounded .state) (rounded .draws))
+      either (Quiet t c b σ) (eqb (rounded .value) 0) (made (withShutter t 0 b) (rounded .state) (rounded .draws) 0)
       (later (rounded .draws) (creditOf t c slot (withShutter t 0 b) (rounded .state)))
       (λ e. record {
         kept = shut-kept;
@@ -69,6 +71,8 @@ module _ (t c slot : ℕ) (b : List ℕ) (σ : ℕ) (fit : Fit t c (length b)) (
         zoom-le = omega (arith, shut-zoom);
         state = state-is (shutterOf t b) (unitOf t c b) σ;
         draws = omega (arith, draws-le (shutterOf t b) (unitOf t c b) σ);
+        lost = omega arith;
+        lost-below = λ l. refl;
       })
       (λ e. record {
         kept = kept-then t b (withShutter t 0 b) _ shut-kept (shut-credited .kept);
@@ -78,6 +82,8 @@ module _ (t c slot : ℕ) (b : List ℕ) (σ : ℕ) (fit : Fit t c (length b)) (
         zoom-le = omega (arith, shut-zoom, shut-credited .zoom-le);
         state = shut-credited .state ∙ after-then (rounded .draws) _ σ (rounded .state) (state-is (shutterOf t b) (unitOf t c b) σ);
         draws = omega (arith, draws-le (shutterOf t b) (unitOf t c b) σ, shut-credited .draws);
+        lost = shut-credited .lost;
+        lost-below = λ l. shut-credited .lost-below (rw shut-zoom l);
       })
 
 -- CLEAR
@@ -132,6 +138,8 @@ module _ (t c : ℕ) (b : List ℕ) (fit : Fit t c (length b)) where
     zoom-le = omega (arith, emptied-zoom);
     state = refl;
     draws = omega arith;
+    lost = omega arith;
+    lost-below = λ l. refl;
   }
 
 -- UP TO THE ZOOMING IN
@@ -158,6 +166,8 @@ module _ (t c n crossed : ℕ) (b : List ℕ) (σ : ℕ) (fit : Fit t c (length 
         zoom-le = omega (arith, shut-quiet .zoom-le);
         state = shut-quiet .state;
         draws = shut-quiet .draws;
+        lost = shut-quiet .lost;
+        lost-below = shut-quiet .lost-below;
       })
 
 -- ZOOM IN
@@ -220,6 +230,8 @@ pub record Crossed (t c : ℕ) (b : List ℕ) (σ : ℕ) (s : Step) : Type 0 whe
   pub zoom-le : zoomOf t (s .bytes) ≤ zoomOf t b + 1
   pub state : s .state ≡ stateAfter (s .draws) σ
   pub draws : s .draws ≤ t + 3
+  pub lost : s .lost ≤ 1
+  pub lost-below : zoomOf t b < maxZoom c → s .lost ≡ 0
 
 module _ (t c n crossed : ℕ) (b : List ℕ) (σ : ℕ) (fit : Fit t c (length b)) (sound : soundOf t c b ≡ true) where
   abbrev within : Step
@@ -238,13 +250,23 @@ module _ (t c n crossed : ℕ) (b : List ℕ) (σ : ℕ) (fit : Fit t c (length 
   unfolding crossOf stateAfter
   crossed-leaves =
       either (Crossed t c b σ) (eqb crossed 0) (still b σ) (leaving within (zoomInOf t c (within .bytes)))
-      (λ e. record { kept = kept-same t b; sound = sound; zoom-le = omega arith; state = refl; draws = omega arith })
+      (λ e. record {
+        kept = kept-same t b;
+        sound = sound;
+        zoom-le = omega arith;
+        state = refl;
+        draws = omega arith;
+        lost = omega arith;
+        lost-below = λ l. refl;
+      })
       (λ e. record {
         kept = kept-then t b (within .bytes) _ (quiet .kept) (shrunk .kept);
         sound = sound-empty t c (zoomInOf t c (within .bytes)) (fit .c-low) (omega (arith, low, shrunk .zoom-le)) (shrunk .shutter ∙ quiet .shutter);
         zoom-le = omega (arith, quiet .zoom-le, shrunk .zoom-le);
         state = quiet .state;
         draws = quiet .draws;
+        lost = quiet .lost;
+        lost-below = quiet .lost-below;
       })
 
 -- a far jump draws nothing

@@ -36,6 +36,12 @@ module _ (c : ℕ) where
       let rest = divideEach c vs (d .state) .draws in
       divide-state vs (d .state) ∙ ap (stateAfter rest) (state-is v c σ) ∙ sym (after-add (d .draws) rest σ)
 
+  -- rounding loses nothing
+  pub divide-lost : (l : List ℕ) (σ : ℕ) → divideEach c l σ .lost ≡ 0
+  unfolding divideEach
+  divide-lost [] σ = refl
+  divide-lost (v ∷ vs) σ = divide-lost vs _
+
   -- what a rounded division does to any number, whatever the state, is done to each
   pub divide-each : (P : ℕ → ℕ → Type 0) → ((v σ : ℕ) → P v (roundedDiv v c σ .value))
       → (l : List ℕ) (σ i : ℕ) → i < length l → P (getD l i 0) (getD (divideEach c l σ .bytes) i 0)

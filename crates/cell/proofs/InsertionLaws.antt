@@ -1,4 +1,4 @@
--- What an insertion leaves of a cell, read off the cases of its definition: the length, the pads, a sound cell, the random state.
+-- What an insertion leaves of a cell, read off the cases of its definition: the length, the pads, a sound cell, the random state, what is lost.
 use Prim.Native.Nat.{ℕ, _+_, _≤_, _<_}
 use mathlib.Core.Path.{_≡_, refl, _∙_}
 use mathlib.Core.Bool.{true, cond}
@@ -7,12 +7,12 @@ use lib.Dec.{ltb}
 use lib.ListN.{length, set, length-set}
 use lib.Seq.{length-take-le}
 use native.Mathlib.Omega.{arith}
-use borrow.Author.Tests.{lt-ltb, ltb-true}
+use borrow.Author.Tests.{lt-ltb, ltb-true, ltb-false}
 use Rattle.laws.specs.Steps.{Step, still}
 use Rattle.laws.proofs.ChoiceLaws.{either}
 use Rattle.rounding.specs.Draws.{stateAfter}
 use Rattle.cell.specs.Cell.{pixelsOf, slotOf, pixelsIn, pixelOf, zoomOf, shutterOf, unitOf, withPixel, withZoom, withShutter, maxZoom, soundOf}
-use Rattle.cell.specs.Insertion.{divideEach, zoomOutOf, creditOf, insertOf}
+use Rattle.cell.specs.Insertion.{divideEach, zoomOutOf, dropped, creditOf, insertOf}
 use Rattle.cell.specs.Workers.{Fit}
 use Rattle.cell.proofs.SmallLaws.{bounded-set}
 use Rattle.laws.proofs.SmallLaws.{Small, small-take}
@@ -20,7 +20,7 @@ use Rattle.cell.proofs.CellLaws.{Kept, kept-same, kept-then, slot-insid
 use Rattle.cell.proofs.CellLaws.{with-zoom-zoom, with-zoom-shutter, with-zoom-kept}
 use Rattle.cell.proofs.CellLaws.{with-pixels-pixels, with-pixels-zoom, with-pixels-shutter, with-pixels-kept}
 use Rattle.cell.proofs.CellLaws.{with-shutter-shutter, with-shutter-zoom, with-shutter-kept}
-use Rattle.cell.proofs.DivideLaws.{divide-length, divide-draws, divide-state, divide-small}
+use Rattle.cell.proofs.DivideLaws.{divide-length, divide-draws, divide-state, divide-lost, divide-small}
 use Rattle.cell.proofs.PowerLaws.{max-zoom-limit}
 use Rattle.cell.proofs.SoundLaws.{sound-zoom, sound-unit, sound-is, sound-empty}
 
@@ -33,6 +33,8 @@ pub record Credited (t c : ℕ) (b : List ℕ) (σ : ℕ) (s : Step) : Type 0 wh
   pub zoom-le : zoomOf t (s .bytes) ≤ zoomOf t b + 1
   pub state : s .state ≡ stateAfter (s .draws) σ
   pub draws : s .draws ≤ pixelsOf t
+  pub lost : s .lost ≤ 1
+  pub lost-below : zoomOf t b < maxZoom c → s .lost ≡ 0
 
 -- ZOOM-OUT
 module _ (t c slot : ℕ) (b : List ℕ) (σ : ℕ) (fit : Fit t c (length b)) where
@@ -85,6 +87,8 @@ module _ (t c slot : ℕ) (b : List ℕ) (σ : ℕ) (fit : Fit t c (length b)) w
     zoom-le = rw zoom-out-zoom (omega arith);
     state = divide-state c dividends σ;
     draws = omega (arith, dividends-length, divide-draws c dividends σ);
+    lost = omega (arith, divide-lost c dividends σ);
+    lost-below = λ l. divide-lost c dividends σ;
   }
 
 -- CREDIT
@@ -97,7 +101,7 @@ module _ (t c slot : ℕ) (b : List ℕ) (σ : ℕ) (fit : Fit t c (length b)) (
   unfolding creditOf stateAfter
   credited =
       either (Credited t c b σ) (ltb (pixelOf b slot) 255) (still (withPixel slot (pixelOf b slot + 1) b) σ)
-      (cond (ltb (zoomOf t b) (maxZoom c)) (zoomOutOf t c slot b σ) (still b σ))
+      (cond (ltb (zoomOf t b) (maxZoom c)) (zoomOutOf t c slot b σ) (dropped b σ))
       (λ e. record {
         kept = with-pixel-kept t slot (pixelOf b slot + 1) b inside (omega (arith, ltb-true (pixelOf b slot) 255 e));
         shutter = with-pixel-shutter t slot (pixelOf b slot + 1) b inside;
@@ -106,8 +110,10 @@ module _ (t c slot : ℕ) (b : List ℕ) (σ : ℕ) (fit : Fit t c (length b)) (
         zoom-le = omega (arith, with-pixel-zoom t slot (pixelOf b slot + 1) b inside);
         state = refl;
         draws = omega arith;
+        lost = omega arith;
+        lost-below = λ l. refl;
       })
-      (λ e. either (Credited t c b σ) (ltb (zoomOf t b) (maxZoom c)) (zoomOutOf t c slot b σ) (still b σ)
+      (λ e. either (Credited t c b σ) (ltb (zoomOf t b) (maxZoom c)) (zoomOutOf t c slot b σ) (dropped b σ)
       (λ e'. zoom-out-credited t c slot b σ fit (ltb-true _ _ e'))
       (λ e'. record {
         kept = kept-same t b;
@@ -117,6 +123,8 @@ module _ (t c slot : ℕ) (b : List ℕ) (σ : ℕ) (fit : Fit t c (length b)) (
         zoom-le = omega arith;
         state = refl;
         draws = omega arith;
+        lost = omega arith;
+        lost-below = λ l. absurd (omega (arith, ltb-false (zoomOf t b) (maxZoom c) e'));
       }))
 
 -- INSERT
@@ -125,6 +133,8 @@ pub record Inserted (t c : ℕ) (b : List ℕ) (σ : ℕ) (s : Step) : Type 0 wh
   pub sound : soundOf t c b ≡ true → soundOf t c (s .bytes) ≡ true
   pub state : s .state ≡ stateAfter (s .draws) σ
   pub draws : s .draws ≤ pixelsOf t
+  pub lost : s .lost ≤ 1
+  pub lost-below : zoomOf t b < maxZoom c → s .lost ≡ 0
 
 module _ (t c n : ℕ) (b : List ℕ) (σ : ℕ) (fit : Fit t c (length b)) where
   -- the cell whose shutter is closed
@@ -158,10 +168,14 @@ module _ (t c n : ℕ) (b : List ℕ) (σ : ℕ) (fit : Fit t c (length b)) wher
         sound = below-sound (ltb-true _ _ e);
         state = refl;
         draws = omega arith;
+        lost = omega arith;
+        lost-below = λ l. refl;
       })
       (λ e. record {
         kept = kept-then t b closed (creditOf t c (slotOf t n) closed σ .bytes) closed-kept (closed-credited .kept);
         sound = credit-sound;
         state = closed-credited .state;
         draws = closed-credited .draws;
+        lost = closed-credited .lost;
+        lost-below = λ l. closed-credited .lost-below (rw (with-shutter-zoom t 0 b (fit .size-is)) l);
       })

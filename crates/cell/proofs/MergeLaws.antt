@@ -56,6 +56,7 @@ pub record Merged (t c : ℕ) (b : List ℕ) (σ : ℕ) (s : Step) : Type 0 wher
   pub zoom-ge : zoomOf t b ≤ zoomOf t (s .bytes)
   pub state : s .state ≡ stateAfter (s .draws) σ
   pub draws : s .draws ≤ pixelsOf t * maxZoom c
+  pub lost-below : zoomOf t (s .bytes) < maxZoom c → s .lost ≡ 0
 
 module _ (t c n : ℕ) (b src : List ℕ) (σ : ℕ) (fit : Fit t c (length b)) (fit' : Fit t c (length src))
     (sound : soundOf t c b ≡ true) (sound' : soundOf t c src ≡ true) where
@@ -164,4 +165,5 @@ module _ (t c n : ℕ) (b src : List ℕ) (σ : ℕ) (fit : Fit t c (length b)) 
     zoom-ge = rw merged-zoom (omega (arith, ends .zoom-ge));
     state = ends .state ∙ after-then (added .draws) _ σ (added .state) (add-state c down down' (pixelsIn t b) (pixelsIn t src) σ);
     draws = few;
+    lost-below = λ h. ends .lost-below (omega (arith, rw merged-zoom at h, low));
   }

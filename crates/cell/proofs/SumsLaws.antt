@@ -1,22 +1,23 @@
 -- The sums of a merge, of the definitions alone: each bound is that of one division, carried along the levels, the
 -- pixels and the raises. Assumes nothing.
-use Prim.Native.Nat.{ℕ, zero, suc, _+_, _*_, _≤_, min}
+use Prim.Native.Nat.{ℕ, zero, suc, _+_, _*_, _/_, _<_, _≤_, min}
 use mathlib.Core.Path.{_≡_, refl, ap, _∙_}
 use mathlib.Core.Bool.{true, false}
 use mathlib.Core.List.{List, [], _∷_, _++_}
-use lib.ListN.{length, getD}
+use lib.ListN.{length, getD, set}
 use native.Mathlib.Omega.{arith}
-use native.Mathlib.Nat.{suc-mul, mul-le-mul, le-trans}
+use native.Mathlib.Nat.{suc-mul, mul-le-mul, mul-le-mul-left, le-trans, div-le-of-le-mul}
 use borrow.Author.Tests.{le-leb}
 use Rattle.laws.specs.Steps.{Step, still}
 use Rattle.laws.proofs.ChoiceLaws.{either}
 use Rattle.rounding.specs.declared.Divided.{Divided}
 use Rattle.rounding.specs.Draws.{stateAfter, roundedDiv}
-use Rattle.rounding.proofs.DivisionLaws.{draws-le, state-is}
+use Rattle.rounding.proofs.DivisionLaws.{draws-le, value-le, state-is}
 use Rattle.rounding.proofs.StateLaws.{after-add}
+use Rattle.cell.specs.Cell.{sumOf}
 use Rattle.cell.specs.Insertion.{divideEach}
 use Rattle.cell.specs.Crossing.{allAtMost}
-use Rattle.cell.specs.Merge.{scaleDown, addPair, addEach, cutEach, Settled, settledLater, settleFrom}
+use Rattle.cell.specs.Merge.{scaleDown, addPair, addEach, cutEach, cutOff, Settled, settledLater, settleFrom}
 use Rattle.cell.proofs.DivideLaws.{quotient-small, divide-length, divide-draws, divide-state}
 use Rattle.cell.proofs.AtMostLaws.{most-cons}
 
@@ -79,6 +80,12 @@ module _ (c down down' : ℕ) where
       let d : Divided = addPair c down down' x y σ in
       add-state xs ys (d .state) ∙ after-then (d .draws) _ σ (d .state) (pair-state x y σ)
 
+  pub add-lost : (xs ys : List ℕ) (σ : ℕ) → addEach c down down' xs ys σ .lost ≡ 0
+  unfolding addEach
+  add-lost [] ys σ = refl
+  add-lost (x ∷ xs) [] σ = refl
+  add-lost (x ∷ xs) (y ∷ ys) σ = add-lost xs ys _
+
   pub add-length : (xs ys : List ℕ) (σ : ℕ) → length ys ≡ length xs → length (addEach c down down' xs ys σ .bytes) ≡ length xs
   unfolding addEach
   add-length [] ys σ e = refl
@@ -107,6 +114,22 @@ module _ (m : ℕ) where
       let q = most-cons m y l e in
       simp (le-leb _ _ (q .0)) (most-one-more l x (q .1) h)
 
+  pub most-set : (l : List ℕ) (i x : ℕ) → allAtMost m l ≡ true → x ≤ m → allAtMost m (set l i x) ≡ true
+  unfolding allAtMost
+  most-set [] i x e h = refl
+  most-set (y ∷ l) zero x e h = simp (le-leb _ _ h) (most-cons m y l e .1)
+  most-set (y ∷ l) (suc i) x e h =
+      let q = most-cons m y l e in
+      simp (le-leb _ _ (q .0)) (most-set l i x (q .1) h)
+
+pub most-up : (m m' : ℕ) (l : List ℕ) → m ≤ m' → allAtMost m l ≡ true → allAtMost m' l ≡ true
+unfolding allAtMost
+most-up m m' [] h e = refl
+most-up m m' (x ∷ xs) h e =
+    let q = most-cons m x xs e in
+    let l : x ≤ m' = omega (arith, q .0) in
+    simp (le-leb _ _ l) (most-up m m' xs h (q .1))
+
 -- CUT
 pub cut-low : (l : List ℕ) → allAtMost 255 (cutEach l) ≡ true
 unfolding allAtMost cutEach
@@ -129,6 +152,37 @@ cut-fits (x ∷ xs) e =
     let same : min x 255 ≡ x = omega (arith, q .0) in
     rw (same, cut-fits xs (q .1)) refl
 
+-- a sum is what it is cut to and what is cut off; where all fit nothing is
+pub cut-lost : (l : List ℕ) → sumOf (cutEach l) + cutOff l ≡ sumOf l
+unfolding cutEach cutOff sumOf
+cut-lost [] = refl
+cut-lost (x ∷ xs) = omega (arith, cut-lost xs)
+
+pub cut-none : (l : List ℕ) → allAtMost 255 l ≡ true → cutOff l ≡ 0
+unfolding cutOff
+cut-none [] e = refl
+cut-none (x ∷ xs) e =
+    let q = most-cons 255 x xs e in
+    omega (arith, q .0, cut-none xs (q .1))
+
+-- a sum goes up to 511
+pub cut-few : (l : List ℕ) → allAtMost 511 l ≡ true → cutOff l ≤ 256 * length l
+unfolding cutOff
+cut-few [] e = omega arith
+cut-few (x ∷ xs) e =
+    let q = most-cons 511 x xs e in
+    omega (arith, q .0, cut-few xs (q .1))
+
+-- and dividing leaves it so
+pub divide-most : (c : ℕ) → 2 ≤ c → (l : List ℕ) (σ : ℕ) → allAtMost 511 l ≡ true → allAtMost 511 (divideEach c l σ .bytes) ≡ true
+unfolding divideEach allAtMost
+divide-most c base [] σ e = refl
+divide-most c base (v ∷ vs) σ e =
+    let q = most-cons 511 v vs e in
+    let half : v / c ≤ 256 = div-le-of-le-mul c (omega (arith, q .0)) in
+    let h : roundedDiv v c σ .value ≤ 511 = omega (arith, value-le v c σ) in
+    simp (le-leb _ _ h) (divide-most c base vs (roundedDiv v c σ .state) (q .1))
+
 -- SETTLE
 -- what settling leaves, so many levels below max_zoom
 pub record Settles (left z : ℕ) (l : List ℕ) (σ : ℕ) (r : Settled) : Type 0 where
@@ -138,12 +192,13 @@ pub record Settles (left z : ℕ) (l : List ℕ) (σ : ℕ) (r : Settled) : Type
   pub zoom-le : r .zoom ≤ z + left
   pub state : r .sums .state ≡ stateAfter (r .sums .draws) σ
   pub draws : r .sums .draws ≤ left * length l
+  pub lost-below : r .zoom < z + left → r .sums .lost ≡ 0
 
 module _ (c : ℕ) where
   -- sums that fit are settled, at max_zoom too
   pub settle-fit : (left z : ℕ) (l : List ℕ) (σ : ℕ) → allAtMost 255 l ≡ true → settleFrom c left z l σ ≡ record { zoom = z; sums = still l σ }
   unfolding settleFrom
-  settle-fit zero z l σ e = rw (cut-fits l e) refl
+  settle-fit zero z l σ e = rw (cut-fits l e, cut-none l e) refl
   settle-fit (suc left) z l σ e = rw e refl
 
   -- below max_zoom a sum that does not fit is divided with all others, and nothing is cut
@@ -154,12 +209,28 @@ module _ (c : ℕ) where
 
   pub settles : (left z : ℕ) (l : List ℕ) (σ : ℕ) → Settles left z l σ (settleFrom c left z l σ)
   unfolding settleFrom stateAfter
-  settles zero z l σ = record { low = cut-low l; long = cut-length l; zoom-ge = omega arith; zoom-le = omega arith; state = refl; draws = omega arith }
+  settles zero z l σ = record {
+    low = cut-low l;
+    long = cut-length l;
+    zoom-ge = omega arith;
+    zoom-le = omega arith;
+    state = refl;
+    draws = omega arith;
+    lost-below = λ h. absurd (omega arith);
+  }
   settles (suc left) z l σ =
       let s : Step = divideEach c l σ in
       let w : Settles left (z + 1) (s .bytes) (s .state) (settleFrom c left (z + 1) (s .bytes) (s .state)) = settles left (z + 1) (s .bytes) (s .state) in
       either (Settles (suc left) z l σ) (allAtMost 255 l) _ _
-      (λ e. record { low = e; long = refl; zoom-ge = omega arith; zoom-le = omega arith; state = refl; draws = omega arith })
+      (λ e. record {
+        low = e;
+        long = refl;
+        zoom-ge = omega arith;
+        zoom-le = omega arith;
+        state = refl;
+        draws = omega arith;
+        lost-below = λ h. refl;
+      })
       (λ e. record {
         low = w .low;
         long = w .long ∙ divide-length c l σ;
@@ -167,7 +238,21 @@ module _ (c : ℕ) where
         zoom-le = omega (arith, w .zoom-le);
         state = w .state ∙ after-then (s .draws) _ σ (s .state) (divide-state c l σ);
         draws = rw (suc-mul left (length l)) (omega (arith, divide-draws c l σ, rw (divide-length c l σ) at (w .draws)));
+        lost-below = λ h. w .lost-below (omega arith);
       })
 
   pub settle-few : (left z : ℕ) (l : List ℕ) (σ : ℕ) → left ≤ 31 → length l ≤ 4098 → settleFrom c left z l σ .sums .draws ≤ 31 * 4098
   settle-few left z l σ h few = le-trans (settles left z l σ .draws) (mul-le-mul h few)
+
+  -- and what is cut off fits one too
+  settle-lost : 2 ≤ c → (left z : ℕ) (l : List ℕ) (σ : ℕ) → allAtMost 511 l ≡ true → settleFrom c left z l σ .sums .lost ≤ 256 * length l
+  unfolding settleFrom
+  settle-lost base zero z l σ e = cut-few l e
+  settle-lost base (suc left) z l σ e =
+      let s : Step = divideEach c l σ in
+      either (λ (r : Settled). r .sums .lost ≤ 256 * length l) (allAtMost 255 l) _ _ (λ e'. omega arith)
+      (λ e'. rw (divide-length c l σ) at (settle-lost base left (z + 1) (s .bytes) (s .state) (divide-most c base l σ e)))
+
+  pub settle-light : 2 ≤ c → (left z : ℕ) (l : List ℕ) (σ : ℕ) → length l ≤ 4098 → allAtMost 511 l ≡ true
+      → settleFrom c left z l σ .sums .lost ≤ 256 * 4098
+  settle-light base left z l σ few e = le-trans (settle-lost base left z l σ e) (mul-le-mul-left 256 few)

@@ -13,7 +13,7 @@ use Rattle.cell.specs.Insertion.{creditOf}
 -- what the rounded shutter does to a cell whose shutter is 0 by now: 1 credits the pixel, 0 leaves it
 abbrev pub closedWith : ℕ → ℕ → ℕ → List ℕ → Divided → Step
 closedWith t c slot b d =
-    cond (eqb (d .value) 0) (made b (d .state) (d .draws)) (later (d .draws) (creditOf t c slot b (d .state)))
+    cond (eqb (d .value) 0) (made b (d .state) (d .draws) 0) (later (d .draws) (creditOf t c slot b (d .state)))
 
 -- CLOSE: s becomes 0, and rounded division of s by c ^ Z (which draws nothing for s = 0) gives 0, or 1 for the pixel
 unfoldable pub closeOf : ℕ → ℕ → ℕ → List ℕ → ℕ → Step

@@ -3,7 +3,7 @@ use Prim.Native.Nat.{ℕ, zero, suc, _+_, _-_, _/_, _%_, _^_, min, max}
 use mathlib.Core.Bool.{cond}
 use mathlib.Core.List.{List, [], _∷_}
 use lib.ListN.{getD, set}
-use Rattle.laws.specs.Steps.{Step, still, leaving, later}
+use Rattle.laws.specs.Steps.{Step, still, leaving, later, made}
 use Rattle.rounding.specs.declared.Divided.{Divided}
 use Rattle.rounding.specs.Draws.{roundedDiv}
 use Rattle.cell.specs.Cell.{slotOf, pixelsIn, zoomOf, shutterOf, withPixels, withZoom, withShutter, maxZoom}
@@ -37,6 +37,11 @@ unfoldable pub cutEach : List ℕ → List ℕ
 cutEach [] = []
 cutEach (x ∷ xs) = min x 255 ∷ cutEach xs
 
+-- the units that are cut off above 255, over all pixels (document 02, T-04)
+unfoldable pub cutOff : List ℕ → ℕ
+cutOff [] = 0
+cutOff (x ∷ xs) = x - 255 + cutOff xs
+
 -- sums that fit a byte each, with the zoom at which they do
 pub record Settled : Type 0 where
   pub zoom : ℕ
@@ -48,7 +53,7 @@ settledLater k r = record { zoom = r .zoom; sums = later k (r .sums) }
 -- SETTLE, so many levels below max_zoom: while a sum exceeds 255, at max_zoom cut all to 255 and stop,
 -- else raise the zoom by 1 and divide all sums by c with rounding
 unfoldable pub settleFrom : ℕ → ℕ → ℕ → List ℕ → ℕ → Settled
-settleFrom c zero z sums σ = record { zoom = z; sums = still (cutEach sums) σ }
+settleFrom c zero z sums σ = record { zoom = z; sums = made (cutEach sums) σ 0 (cutOff sums) }
 settleFrom c (suc left) z sums σ =
     cond (allAtMost 255 sums)
     (record { zoom = z; sums = still sums σ })

@@ -122,7 +122,12 @@ cellOutcome b r = record { bytes = b; answer = r }
 abbrev pub cellCall : Verdict → Step → List ℕ → ℕ → CellOutcome
 cellCall v s b σ =
     cellOutcome (whenAccepted v (s .bytes) b)
-    (record { verdict = v; rounding = record { state = whenAccepted v (s .state) σ }; draws = whenAccepted v (s .draws) 0 })
+    (record {
+      verdict = v;
+      rounding = record { state = whenAccepted v (s .state) σ };
+      draws = whenAccepted v (s .draws) 0;
+      lost = whenAccepted v (s .lost) 0;
+    })
 
 abbrev pub insertVerdict : MicroParams → List ℕ → ℕ → Verdict
 insertVerdict p b σ = refuseParams p (refuseState σ (refuseDepth p b (refuseUnsound p b Accepted)))

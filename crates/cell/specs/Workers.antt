@@ -35,7 +35,7 @@ pub record Judged (t c : ℕ) (b : List ℕ) (shutter unit : ℕ) : Type 0 where
 
 -- the bytes that a worker leaves, with what it returned beside them
 abbrev pub stepOf : List ℕ → Drawn → Step
-stepOf b r = made b (r .state) (r .draws)
+stepOf b r = made b (r .state) (r .draws) (r .lost)
 
 -- c ^ z, and 0 where z is above max_zoom
 abbrev pub unitOrZero : ℕ → ℕ → ℕ
@@ -52,7 +52,7 @@ pub record HeldOf (p : MicroParams) (b : List ℕ) (σ : ℕ) (r : Held) : Type 
 
 -- the answers of a call that changes a cell
 abbrev pub turnedBack : Verdict → Rounding → CellAnswer
-turnedBack v ρ = record { verdict = v; rounding = ρ; draws = 0 }
+turnedBack v ρ = record { verdict = v; rounding = ρ; draws = 0; lost = 0 }
 
 abbrev pub doneWith : Drawn → CellAnswer
-doneWith d = record { verdict = Accepted; rounding = record { state = d .state }; draws = d .draws }
+doneWith d = record { verdict = Accepted; rounding = record { state = d .state }; draws = d .draws; lost = d .lost }

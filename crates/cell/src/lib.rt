@@ -52,17 +52,21 @@ pub struct PixelAnswer {
     pub items: f64,
 }
 
-// What a call that changes a cell gives beside the bytes: the random state to go on with, and how many draws it made.
+// What a call that changes a cell gives beside the bytes: the random state to go on with, how many draws it made, and how
+// many units it lost.
 pub struct CellAnswer {
     pub verdict: Verdict,
     pub rounding: Rounding,
     pub draws: u32,
+    pub lost: u32,
 }
 
-// What a worker that draws returns: the random state after it, and how many draws it made.
+// What a worker that draws returns: the random state after it, how many draws it made, and how many units it lost. All
+// three together take no more room than the first two would.
 pub struct Drawn {
     pub state: u64,
     pub draws: u32,
+    pub lost: u32,
 }
 
 // What is known of a cell that was judged: its shutter, and its unit c^Z.

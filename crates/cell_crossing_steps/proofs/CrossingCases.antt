@@ -87,11 +87,11 @@ module _ (t c slot : ℕ) (b : List ℕ) (σ s u : ℕ) (es : s ≡ shutterOf t 
     unfolding closeOf
     closing = rw (ed, eb, es, eu) refl
 
-    pub close-none : d .value ≡ 0 → made b' (d .state) (d .draws) ≡ closeOf t c slot b σ
+    pub close-none : d .value ≡ 0 → made b' (d .state) (d .draws) 0 ≡ closeOf t c slot b σ
     close-none h = rw closing (simp (eq-eqb _ _ h))
 
     pub close-credit : (d .value ≡ 0 → ⊥) → (l : List ℕ) (r : Drawn) → stepOf l r ≡ creditOf t c slot b' (d .state)
-        → made l (r .state) (d .draws + r .draws) ≡ closeOf t c slot b σ
+        → made l (r .state) (d .draws + r .draws) (r .lost) ≡ closeOf t c slot b σ
     close-credit h l r e = rw closing (simp (ne-eqb _ _ h) (ap (later (d .draws)) e))
 
 -- the draws of each way out

@@ -56,7 +56,11 @@ fn enter_flat(
     ensures { λ r. ⌜ r .draws ≤ t + 3 ⌝ }
 {
     clear(cell, t, slot, n - crossed, crossed);
-    Drawn { state, draws: 0 }
+    Drawn {
+        state,
+        draws: 0,
+        lost: 0,
+    }
 }
 
 // The pixel of the sub-window that ends. A far jump, which may lead from before sub-window 0, has none and asks for none.
@@ -107,7 +111,11 @@ fn enter_from(
     ensures { λ r. ⌜ r .draws ≤ t + 3 ⌝ }
 {
     if crossed == 0 {
-        return Drawn { state, draws: 0 };
+        return Drawn {
+            state,
+            draws: 0,
+            lost: 0,
+        };
     }
     let drawn = enter_unzoomed(cell, t, c, n, crossed, slot, shutter, unit, state);
     zoom_in(cell, t, c);
@@ -141,7 +149,8 @@ fn enter_unzoomed(
     drawn
 }
 
-// Closes the shutter into the pixel of the sub-window that ends.
+// Closes the shutter into the pixel of the sub-window that ends. Nothing else in a crossing can lose a unit: what is cleared
+// has left the window.
 fn close(
     cell: &mut [u8],
     t: usize,
@@ -158,19 +167,25 @@ fn close(
     fields::set_shutter(cell, t, 0);
     // Most cells have nothing to round: they are spared the division.
     if shutter == 0 {
-        return Drawn { state, draws: 0 };
+        return Drawn {
+            state,
+            draws: 0,
+            lost: 0,
+        };
     }
     let rounded = rounding::worker::divide(shutter as u64, unit, state);
     if rounded.value == 0 {
         return Drawn {
             state: rounded.state,
             draws: rounded.draws,
+            lost: 0,
         };
     }
     let credited = cell_insertion::worker::credit_pixel(cell, t, c, slot, rounded.state);
     Drawn {
         state: credited.state,
         draws: rounded.draws + credited.draws,
+        lost: credited.lost,
     }
 }
 
@@ -208,7 +223,11 @@ fn empty(cell: &mut [u8], t: usize, state: u64) -> Drawn
     let pixels = fields::pixels(t);
     fields::zero_all(&mut cell[..pixels]);
     fields::set_shutter(cell, t, 0);
-    Drawn { state, draws: 0 }
+    Drawn {
+        state,
+        draws: 0,
+        lost: 0,
+    }
 }
 
 // Zooms in as far as the pixels allow.

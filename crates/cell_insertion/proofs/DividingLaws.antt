@@ -10,7 +10,7 @@ use native.Mathlib.Numerals.{add-one}
 use native.Mathlib.Decide.{ℕ-discrete}
 use native.Mathlib.Nat.{add-assoc, zero-add, add-zero}
 use borrow.Author.Tests.{eq-eqb, ne-eqb}
-use Rattle.laws.specs.Steps.{Step, made}
+use Rattle.laws.specs.Steps.{Step, still, made}
 use Rattle.rounding.specs.declared.Divided.{Divided}
 use Rattle.rounding.specs.Draws.{roundedDiv}
 use Rattle.rounding.proofs.DivisionLaws.{draws-le}
@@ -23,7 +23,7 @@ divided-bounds v c σ r hv hc e = rw e (quotient-small v c σ hv hc, draws-le v 
 
 -- a step behind the bytes p, n draws after them
 abbrev behind : List ℕ → ℕ → Step → Step
-behind p n s = made (p ++ s .bytes) (s .state) (n + s .draws)
+behind p n s = made (p ++ s .bytes) (s .state) (n + s .draws) (s .lost)
 
 -- where the loop is: before i stand the quotients, from i on the pixels as they were
 pub record Dividing (c slot : ℕ) (px₀ : List ℕ) (σ : ℕ) (px : List ℕ) (s n i : ℕ) : Type 0 where
@@ -45,7 +45,7 @@ divide-first : (c : ℕ) (l : List ℕ) (σ i : ℕ) → i < length l
 unfolding divideEach
 divide-first c l σ i h = rw (add-one i, drop-cons l i 0 h) refl
 
-divide-none : (c : ℕ) (l : List ℕ) (σ i : ℕ) → length l ≤ i → divideEach c (drop i l) σ ≡ made [] σ 0
+divide-none : (c : ℕ) (l : List ℕ) (σ i : ℕ) → length l ≤ i → divideEach c (drop i l) σ ≡ still [] σ
 unfolding divideEach
 divide-none c l σ i h = rw (drop-of-length-le l h) refl
 
@@ -74,7 +74,7 @@ module _ (c slot : ℕ) (px₀ : List ℕ) (σ : ℕ) where
           few = omega (arith, w .few);
         }
 
-    pub dividing-end : length px ≤ i → made px s n ≡ divideEach c (set px₀ slot 256) σ
+    pub dividing-end : length px ≤ i → made px s n 0 ≡ divideEach c (set px₀ slot 256) σ
     dividing-end h =
         let over : length (set px₀ slot 256) ≤ i = rw (length-set px₀ slot 256, ← w .same) h in
         sym (w .done ∙ rw (divide-none c (set px₀ slot 256) s i over, take-all i px h) (simp (append-nil, add-zero)))

@@ -10,7 +10,7 @@ use borrow.Author.Tests.{lt-ltb, le-ltb}
 use Rattle.laws.specs.Steps.{still}
 use Rattle.cell.specs.declared.Drawn.{Drawn}
 use Rattle.cell.specs.Cell.{pixelsOf, slotOf, pixelOf, zoomOf, shutterOf, unitOf, withPixel, withZoom, withShutter, maxZoom, soundOf}
-use Rattle.cell.specs.Insertion.{divideEach, pixelStep, zoomOutOf, creditOf, insertOf}
+use Rattle.cell.specs.Insertion.{divideEach, pixelStep, zoomOutOf, dropped, creditOf, insertOf}
 use Rattle.cell.specs.Workers.{Fit, Judged, stepOf}
 use Rattle.cell.proofs.CellLaws.{slot-read, with-zoom-pixels, with-shutter-none}
 use Rattle.cell.proofs.InsertionLaws.{credit-gained}
@@ -26,7 +26,7 @@ module _ (t c slot : ℕ) (b : List ℕ) (σ z top : ℕ) (full : 255 ≤ pixelO
       let divided = rw (ep, er', with-zoom-pixels t (zoomOf t b + 1) b) at e in
       simp (le-ltb _ _ full, lt-ltb _ _ h') (rw (ep, er') (ap (pixelStep t (withZoom t (zoomOf t b + 1) b)) divided))
 
-  pub credit-dropped : top ≤ z → still b σ ≡ creditOf t c slot b σ
+  pub credit-dropped : top ≤ z → dropped b σ ≡ creditOf t c slot b σ
   unfolding creditOf
   credit-dropped h =
       let h' : maxZoom c ≤ zoomOf t b = rw (← zoom, ← limit) h in
@@ -56,7 +56,7 @@ module _ (t c n : ℕ) (b : List ℕ) (σ : ℕ) (fit : Fit t c (length b)) (sou
       insert-credits t c n b σ 0 1 (sym none) one b l slot r (omega arith) (sym (with-shutter-none t b (fit .size-is) none)) es e
 
   pub flat-gained : pixelOf b slot < 255 → still (withPixel slot (pixelOf b slot + 1) b) σ ≡ insertOf t c n b σ
-  flat-gained h = insert-flat (withPixel slot (pixelOf b slot + 1) b) (record { state = σ; draws = 0 }) (credit-gained t c slot b σ h)
+  flat-gained h = insert-flat (withPixel slot (pixelOf b slot + 1) b) (record { state = σ; draws = 0; lost = 0 }) (credit-gained t c slot b σ h)
 
 pub slot-in-cell : (t c n : ℕ) (b : List ℕ) → Fit t c (length b) → (slot : ℕ) → slot ≡ slotOf t n → slot < length b
 slot-in-cell t c n b fit slot es = omega (arith, slot-read t n slot es, fit .size-is)

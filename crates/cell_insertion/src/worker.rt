@@ -59,11 +59,12 @@ fn divide_pixels(pixels: &mut [u8], c: u32, slot: usize, state: u64) -> Drawn
     Drawn {
         state: after,
         draws,
+        lost: 0,
     }
 }
 
-// A unit for a pixel that has no room for it: the cell zooms out, and at max_zoom the unit is dropped. Called from two
-// places, it is kept out of the way of the many items that only add 1.
+// A unit for a pixel that has no room for it: the cell zooms out, and at max_zoom the unit is dropped, the one place where an
+// item is lost. Called from two places, it is kept out of the way of the many items that only add 1.
 fn zoom_out(cell: &mut [u8], t: usize, c: u32, slot: usize, state: u64) -> Drawn
     requires { ⌜ Fit t c (length (now cell)) × (slot < pixelsOf t) × (255 ≤ pixelOf (now cell) slot) ⌝ }
     ensures { λ r. ⌜ stepOf (now (cell .exit)) r ≡ creditOf t c slot (now (cell .entry)) state ⌝ }
@@ -75,7 +76,11 @@ fn zoom_out(cell: &mut [u8], t: usize, c: u32, slot: usize, state: u64) -> Drawn
         let pixels = fields::pixels(t);
         return divide_pixels(&mut cell[..pixels], c, slot, state);
     }
-    Drawn { state, draws: 0 }
+    Drawn {
+        state,
+        draws: 0,
+        lost: 1,
+    }
 }
 
 // A unit for the pixel.
@@ -87,7 +92,11 @@ pub fn credit_pixel(cell: &mut [u8], t: usize, c: u32, slot: usize, state: u64) 
     let pixel = cell[slot];
     if pixel < 255 {
         cell[slot] = pixel + 1;
-        return Drawn { state, draws: 0 };
+        return Drawn {
+            state,
+            draws: 0,
+            lost: 0,
+        };
     }
     zoom_out(cell, t, c, slot, state)
 }
@@ -110,7 +119,11 @@ pub fn insert_judged(
 {
     if (shutter as u64) + 1 < unit {
         fields::set_shutter(cell, t, shutter + 1);
-        return Drawn { state, draws: 0 };
+        return Drawn {
+            state,
+            draws: 0,
+            lost: 0,
+        };
     }
     fields::set_shutter(cell, t, 0);
     credit_pixel(cell, t, c, slot, state)
@@ -128,7 +141,11 @@ pub fn insert(cell: &mut [u8], t: usize, c: u32, n: u64, slot: usize, state: u64
         let pixel = cell[slot];
         if pixel < 255 {
             cell[slot] = pixel + 1;
-            return Drawn { state, draws: 0 };
+            return Drawn {
+                state,
+                draws: 0,
+                lost: 0,
+            };
         }
         return zoom_out(cell, t, c, slot, state);
     }

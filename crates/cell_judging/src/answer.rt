@@ -6,7 +6,7 @@ use rounding::Rounding;
 ghost use mathlib.Core.Path.{_≡_};
 ghost use Rattle.cell.specs.Workers.{turnedBack, doneWith};
 
-// The answer of a call that was turned back: the random state comes back as it was.
+// The answer of a call that was turned back: the random state comes back as it was, and nothing is lost.
 pub fn turned_back(verdict: Verdict, rounding: Rounding) -> CellAnswer
     ensures { λ r. ⌜ r ≡ turnedBack verdict rounding ⌝ }
 {
@@ -14,6 +14,7 @@ pub fn turned_back(verdict: Verdict, rounding: Rounding) -> CellAnswer
         verdict,
         rounding,
         draws: 0,
+        lost: 0,
     }
 }
 
@@ -25,5 +26,6 @@ pub fn done(drawn: Drawn) -> CellAnswer
         verdict: Verdict::Accepted,
         rounding: Rounding { state: drawn.state },
         draws: drawn.draws,
+        lost: drawn.lost,
     }
 }

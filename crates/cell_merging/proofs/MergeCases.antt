@@ -58,7 +58,7 @@ module _ (t c : ℕ) (b src : List ℕ) (target : ℕ) (et : target ≡ max (zoo
   pub merged-is : (n slot : ℕ) → slot ≡ slotOf t n → (σ : ℕ) (sums l : List ℕ) (r : Summed)
       → settledOf sums r ≡ sumsOf t c target slot (carry .units) b src σ
       → l ≡ withShutter t (carry .rest) (withZoom t (r .zoom) (withPixels t sums b))
-      → made l (r .state) (r .draws) ≡ mergeOf t c n b src σ
+      → made l (r .state) (r .draws) (r .lost) ≡ mergeOf t c n b src σ
   unfolding mergeOf sumsOf
   merged-is n slot en σ sums l r e el =
       rw (el, ec .rest-is, et)

@@ -129,6 +129,7 @@ fn merge_by(
     Drawn {
         state: summed.state,
         draws: summed.draws,
+        lost: summed.lost,
     }
 }
 

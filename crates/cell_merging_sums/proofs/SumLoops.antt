@@ -15,14 +15,14 @@ use Rattle.rounding.specs.Draws.{roundedDiv}
 use Rattle.rounding.proofs.DivisionLaws.{value-le}
 use Rattle.cell.specs.Insertion.{front, divideEach}
 use Rattle.cell.specs.Crossing.{allAtMost}
-use Rattle.cell.specs.Merge.{delayed, scaleDown, addPair, addEach, cutEach}
+use Rattle.cell.specs.Merge.{delayed, scaleDown, addPair, addEach, cutEach, cutOff}
 use Rattle.cell_merging_sums.specs.Workers.{flatSums}
 use Rattle.cell.proofs.DivideLaws.{divide-draws}
-use Rattle.cell.proofs.SumsLaws.{scale-draws, scale-value, add-few, most-one-more}
+use Rattle.cell.proofs.SumsLaws.{scale-draws, scale-value, add-few, most-one-more, cut-few}
 
 -- a step behind the numbers l, n draws after them
 abbrev behind : List ℕ → ℕ → Step → Step
-behind l n s = made (l ++ s .bytes) (s .state) (n + s .draws)
+behind l n s = made (l ++ s .bytes) (s .state) (n + s .draws) (s .lost)
 
 -- SCALE DOWN: `left` levels are to come yet
 pub record Scaling (levels c v σ x s n left : ℕ) : Type 0 where
@@ -92,7 +92,7 @@ module _ (c down down' : ℕ) (xs ys : List ℕ) (σ : ℕ) where
   adding-begin zs h = record { done = simp zero-add; low = refl; same = h }
 
   module _ (zs : List ℕ) (s n i : ℕ) (w : Adding c down down' xs ys σ zs s n i) where
-    pub adding-end : length xs ≤ i → made zs s n ≡ addEach c down down' xs ys σ
+    pub adding-end : length xs ≤ i → made zs s n 0 ≡ addEach c down down' xs ys σ
     unfolding addEach
     adding-end h = sym (w .done ∙ rw (drop-of-length-le xs h, take-all i zs (omega (arith, w .same))) (simp (append-nil, add-zero)))
 
@@ -175,7 +175,7 @@ module _ (c : ℕ) (l₀ : List ℕ) (σ : ℕ) where
   halving-begin = record { done = simp zero-add; same = refl }
 
   module _ (l : List ℕ) (s n i : ℕ) (w : Halving c l₀ σ l s n i) where
-    pub halving-end : length l ≤ i → made l s n ≡ divideEach c l₀ σ
+    pub halving-end : length l ≤ i → made l s n 0 ≡ divideEach c l₀ σ
     unfolding divideEach
     halving-end h = sym (w .done ∙ rw (drop-of-length-le l h, take-all i l h) (simp (append-nil, add-zero)))
 
@@ -202,23 +202,41 @@ cut-cons : (x : ℕ) (xs : List ℕ) → cutEach (x ∷ xs) ≡ min x 255 ∷ cu
 unfolding cutEach
 cut-cons x xs = refl
 
-pub record Cutting (l₀ l : List ℕ) (i : ℕ) : Type 0 where
+off-cons : (x : ℕ) (xs : List ℕ) → cutOff (x ∷ xs) ≡ x - 255 + cutOff xs
+unfolding cutOff
+off-cons x xs = refl
+
+-- up to i they are cut, and n units were cut off
+pub record Cutting (l₀ l : List ℕ) (n i : ℕ) : Type 0 where
   pub done : cutEach l₀ ≡ take i l ++ cutEach (drop i l)
+  pub off : cutOff l₀ ≡ n + cutOff (drop i l)
   pub same : length l ≡ length l₀
 
 module _ (l₀ : List ℕ) where
-  pub cutting-begin : Cutting l₀ l₀ 0
-  cutting-begin = record { done = refl; same = refl }
+  pub cutting-begin : Cutting l₀ l₀ 0 0
+  cutting-begin = record { done = refl; off = simp zero-add; same = refl }
 
-  module _ (l : List ℕ) (i : ℕ) (w : Cutting l₀ l i) where
+  module _ (l : List ℕ) (n i : ℕ) (w : Cutting l₀ l n i) where
     pub cutting-end : length l ≤ i → l ≡ cutEach l₀
     unfolding cutEach
     cutting-end h = sym (w .done ∙ rw (drop-of-length-le l h, take-all i l h) (append-nil l))
 
-    pub cutting-on : (x : ℕ) → i < length l → x ≡ min (getD l i 0) 255 → Cutting l₀ (set l i x) (i + 1)
-    cutting-on x h e =
-        let q : i < suc i = omega arith in
-        record {
-          done = w .done ∙ rw (drop-cons l i 0 h, cut-cons, ← e) (simp (add-one, take-suc-set, drop-set-lt, append-assoc));
-          same = length-set l i x ∙ w .same;
-        }
+    pub cutting-off : length l ≤ i → n ≡ cutOff l₀
+    unfolding cutOff
+    cutting-off h = sym (w .off ∙ rw (drop-of-length-le l h) (add-zero n))
+
+    module _ (h : i < length l) (y : ℕ) (ey : y ≡ getD l i 0 - 255) where
+      cutting-turn : cutOff l₀ ≡ n + y + cutOff (drop (suc i) l)
+      cutting-turn = w .off ∙ rw (drop-cons l i 0 h, off-cons, ← ey) (simp add-assoc)
+
+      pub cutting-fits : length l₀ ≤ 4098 → allAtMost 511 l₀ ≡ true → n + y < 2 ^ 32
+      cutting-fits few low = omega (arith, cutting-turn, cut-few l₀ low)
+
+      pub cutting-on : (x : ℕ) → x ≡ min (getD l i 0) 255 → Cutting l₀ (set l i x) (n + y) (i + 1)
+      cutting-on x e =
+          let q : i < suc i = omega arith in
+          record {
+            done = w .done ∙ rw (drop-cons l i 0 h, cut-cons, ← e) (simp (add-one, take-suc-set, drop-set-lt, append-assoc));
+            off = cutting-turn ∙ simp (add-one, drop-set-lt);
+            same = length-set l i x ∙ w .same;
+          }

@@ -18,4 +18,4 @@ flatSums (x ∷ xs) (y ∷ ys) = (x + y) ∷ flatSums xs ys
 
 -- the sums that a worker leaves, with what it returned beside them
 abbrev pub settledOf : List ℕ → Summed → Settled
-settledOf sums r = record { zoom = r .zoom; sums = made sums (r .state) (r .draws) }
+settledOf sums r = record { zoom = r .zoom; sums = made sums (r .state) (r .draws) (r .lost) }

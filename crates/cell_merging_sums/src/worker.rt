@@ -12,15 +12,16 @@ ghost use Rattle.rounding.specs.Draws.{roundedDiv};
 ghost use Rattle.cell.specs.Cell.{pixelsOf, zoomOf, maxZoom};
 ghost use Rattle.cell.specs.Insertion.{divideEach};
 ghost use Rattle.cell.specs.Crossing.{allAtMost};
-ghost use Rattle.cell.specs.Merge.{scaleDown, addPair, addEach, cutEach, settleOf, withCarry, sumsOf};
+ghost use Rattle.cell.specs.Merge.{scaleDown, addPair, addEach, cutEach, cutOff, settleOf, withCarry, sumsOf};
 ghost use Rattle.cell.specs.Workers.{Fit, stepOf};
 ghost use Rattle.cell_merging_sums.specs.Workers.{addedOf, flatSums, settledOf};
 
-// Sums that fit a byte each: the zoom at which they do, and what drawing for them left.
+// Sums that fit a byte each: the zoom at which they do, what drawing for them left, and the units that were cut off.
 pub struct Summed {
     pub zoom: u8,
     pub state: u64,
     pub draws: u32,
+    pub lost: u32,
 }
 
 // The pixels of both, with the carry of the shutters, brought to a zoom at which each fits a byte.
@@ -47,12 +48,13 @@ pub fn sum_up(
         zoom: settled.zoom,
         state: settled.state,
         draws: added.draws + settled.draws,
+        lost: settled.lost,
     }
 }
 
 fn add_carry(sums: &mut [u32], slot: usize, carry: u32)
     requires { ⌜ (slot < length (now sums)) × (allAtMost 510 (now sums) ≡ true) × (carry ≤ 1) ⌝ }
-    ensures { λ _. ⌜ now (sums .exit) ≡ withCarry slot carry (now (sums .entry)) ⌝ }
+    ensures { λ _. ⌜ (now (sums .exit) ≡ withCarry slot carry (now (sums .entry))) × (allAtMost 511 (now (sums .exit)) ≡ true) ⌝ }
 {
     sums[slot] = sums[slot] + carry;
 }
@@ -78,7 +80,11 @@ fn add_pixels(
     if down == 0 {
         if other == 0 {
             add_flat(sums, &dst[..pixels], &src[..pixels]);
-            return Drawn { state, draws: 0 };
+            return Drawn {
+                state,
+                draws: 0,
+                lost: 0,
+            };
         }
     }
     add_each(sums, &dst[..pixels], &src[..pixels], down, other, c, state)
@@ -122,6 +128,7 @@ fn add_each(
     Drawn {
         state: after,
         draws,
+        lost: 0,
     }
 }
 
@@ -164,7 +171,7 @@ fn scale_down(value: u64, levels: u8, c: u32, state: u64) -> Divided
 
 // Raises the zoom until every sum fits. One raise need not do: 511 halved may round up to 256.
 fn settle(sums: &mut [u32], zoom: u8, c: u32, state: u64) -> Summed
-    requires { ⌜ (2 ≤ c) × (c ≤ 256) × (zoom ≤ maxZoom c) × (length (now sums) ≤ 4098) ⌝ }
+    requires { ⌜ (2 ≤ c) × (c ≤ 256) × (zoom ≤ maxZoom c) × (length (now sums) ≤ 4098) × (allAtMost 511 (now sums) ≡ true) ⌝ }
     ensures { λ r. ⌜ settledOf (now (sums .exit)) r ≡ settleOf c zoom (now (sums .entry)) state ⌝ }
     ensures { λ r. ⌜ (allAtMost 255 (now (sums .exit)) ≡ true) × (r .draws ≤ 31 * 4098) × (r .zoom ≤ maxZoom c) ⌝ }
 {
@@ -174,11 +181,12 @@ fn settle(sums: &mut [u32], zoom: u8, c: u32, state: u64) -> Summed
     let mut draws: u32 = 0;
     while !all_fit(&sums[..]) {
         if top <= target {
-            cut_each(sums);
+            let lost = cut_each(sums);
             return Summed {
                 zoom: target,
                 state: after,
                 draws,
+                lost,
             };
         }
         target += 1;
@@ -190,6 +198,7 @@ fn settle(sums: &mut [u32], zoom: u8, c: u32, state: u64) -> Summed
         zoom: target,
         state: after,
         draws,
+        lost: 0,
     }
 }
 
@@ -224,6 +233,7 @@ fn divide_each(sums: &mut [u32], c: u32, state: u64) -> Drawn
     Drawn {
         state: after,
         draws,
+        lost: 0,
     }
 }
 
@@ -235,14 +245,29 @@ fn divide_sum(sum: u32, c: u32, state: u64) -> Divided
     worker::divide(sum as u64, c as u64, state)
 }
 
-fn cut_each(sums: &mut [u32])
-    ensures { λ _. ⌜ now (sums .exit) ≡ cutEach (now (sums .entry)) ⌝ }
+// Cuts all to 255, and adds up what stood above it.
+fn cut_each(sums: &mut [u32]) -> u32
+    requires { ⌜ (length (now sums) ≤ 4098) × (allAtMost 511 (now sums) ≡ true) ⌝ }
+    ensures { λ r. ⌜ (now (sums .exit) ≡ cutEach (now (sums .entry))) × (r ≡ cutOff (now (sums .entry))) ⌝ }
 {
+    let mut lost: u32 = 0;
     let mut i: usize = 0;
     while i < sums.len() {
+        lost = lost + above(sums[i]);
         sums[i] = cut(sums[i]);
         i += 1;
     }
+    lost
+}
+
+// The units of a sum that stand above 255.
+fn above(sum: u32) -> u32
+    ensures { λ r. ⌜ r ≡ sum - 255 ⌝ }
+{
+    if sum > 255 {
+        return sum - 255;
+    }
+    0
 }
 
 fn cut(sum: u32) -> u32

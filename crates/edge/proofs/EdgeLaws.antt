@@ -43,7 +43,7 @@ use Rattle.edge.specs.Calls.{inserted, entered, cellsMerged, drawnFrom, 
 
 -- CALLS THAT CHANGE A SKETCH
 module _ (w w' l : List ℕ) (k : MicroCm) (ek : k ≡ sketchOf w) (a : SketchAnswer) (g' : List ℕ) (r : ℕ)
-    (left : (r ≡ numberOf (a .verdict)) × (w' ≡ wordsAfter w a) × (l ≡ changeOf (a .verdict) (a .draws))) where
+    (left : (r ≡ numberOf (a .verdict)) × (w' ≡ wordsAfter w a) × (l ≡ changeOf (a .verdict) (a .draws) (a .lost))) where
   pub put : (o : SketchOutcome) → sketchOutcome a g' ≡ o → changed r w' g' l ≡ changedOf w o
   put o e = rw (left .0, left .1, left .2) (ap (changedOf w) e)
 
@@ -165,7 +165,7 @@ module _ (r : ℕ) where
 
     -- calls that change it
     module _ (a : CellAnswer) (b b' : List ℕ) (state state' n : ℕ) (l : List ℕ)
-        (left : (r ≡ numberOf (a .verdict)) × (state' ≡ a .rounding .state) × (l ≡ changeOf (a .verdict) (a .draws))) where
+        (left : (r ≡ numberOf (a .verdict)) × (state' ≡ a .rounding .state) × (l ≡ changeOf (a .verdict) (a .draws) (a .lost))) where
       cell-put : (o : cells.CellOutcome) → cells.cellOutcome b' a ≡ o → celled r b' state' l ≡ celledOf o
       cell-put o e = rw (left .0, left .1, left .2) (ap celledOf e)
 
@@ -187,6 +187,6 @@ module _ (r state state' : ℕ) where
   draw-told a value e left = rw (left .0, left .1, left .2, e) refl
 
   pub division-told : (a : DivisionAnswer) (value divisor quotient : ℕ) (l : List ℕ) → a ≡ divisionCall value divisor state
-      → (r ≡ numberOf (a .verdict)) × (state' ≡ a .rounding .state) × (quotient ≡ a .value) × (l ≡ changeOf (a .verdict) (a .draws))
+      → (r ≡ numberOf (a .verdict)) × (state' ≡ a .rounding .state) × (quotient ≡ a .value) × (l ≡ changeOf (a .verdict) (a .draws) 0)
       → divided r state' quotient l ≡ dividedBy value divisor state
   division-told a value divisor quotient l e left = rw (left .0, left .1, left .2, left .3, e) refl

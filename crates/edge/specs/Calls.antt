@@ -14,9 +14,10 @@ use Rattle.edge_values.specs.Edge.{clockOf, baseOf, paramsOf, sketchOf, watchOf
 use Rattle.edge_values.specs.Edge.{Read, readOf, Valued, valueOf, Told, toldOf, auditOf, shapeOf, Saved, savedOf, CodesSet, codesSetOf, CodesAsked, codesAskedOf}
 use Rattle.edge_values.specs.Edge.{Celled, celledOf, Pixel, pixelOf, Drawn, drawnOf, Divided, dividedOf}
 
--- 10,000 × 2, for the second form of the edge, and 1 for T-08, by which the mean answers otherwise: as MICROSCOPE_VERSION in the header
+-- 10,000 × 2, for the second form of the edge; 1 for T-08, by which the mean answers otherwise, and 1 for T-04, by which a call that
+-- changes a sketch or a cell tells what it lost: as MICROSCOPE_VERSION in the header
 abbrev pub version : ℕ
-version = 20001
+version = 20002
 
 -- A FRESH START AND A LOAD: a clock of time reads its epoch
 abbrev pub startedWith : (w p : List ℕ) (rows cols t c kind length epoch seed : ℕ) → List ℕ → Started

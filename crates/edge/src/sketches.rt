@@ -116,7 +116,7 @@ pub extern "C" fn microscope_estimate_with(
     edge_answers::read(figures, items, answer)
 }
 
-// Items a sub-window: Under divided by t, rounded down.
+// Items a sub-window: Under divided by the sub-windows begun, rounded down.
 #[no_mangle]
 pub extern "C" fn microscope_mean(
     sketch: &[u64; 9],

@@ -20,11 +20,11 @@ ghost use Rattle.edge_values.specs.Edge.{watchWords, wordsAfter, changeOf, sket
 // What a call left, in its place. A refused call leaves the sketch as it is.
 pub fn changed(sketch: &mut [u64; 9], change: &mut [u64; 3], answer: SketchAnswer) -> u64
     ensures { λ r. ⌜ (r ≡ numberOf (answer .verdict)) × (now (sketch .exit) ≡ wordsAfter (now (sketch .entry)) answer)
-        × (now (change .exit) ≡ changeOf (answer .verdict) (answer .draws)) ⌝ }
+        × (now (change .exit) ≡ changeOf (answer .verdict) (answer .draws) (answer .lost)) ⌝ }
 {
     let verdict = answer.verdict;
     let refused_by = edge_values::number(verdict);
-    *change = [edge_values::index(verdict), answer.draws, 0];
+    *change = [edge_values::index(verdict), answer.draws, answer.lost];
     let accepted = verdict.accepted();
     if !accepted {
         return refused_by;
@@ -160,12 +160,16 @@ pub fn codes_asked(watch: &mut [u64; 3], words: &mut [u64; 2], answer: AskAnswer
 
 pub fn drawn(state: &mut u64, change: &mut [u64; 3], answer: CellAnswer) -> u64
     ensures { λ r. ⌜ (r ≡ numberOf (answer .verdict)) × (now (state .exit) ≡ answer .rounding .state)
-        × (now (change .exit) ≡ changeOf (answer .verdict) (answer .draws)) ⌝ }
+        × (now (change .exit) ≡ changeOf (answer .verdict) (answer .draws) (answer .lost)) ⌝ }
 {
     let verdict = answer.verdict;
     let rounding = answer.rounding;
     *state = rounding.state;
-    *change = [edge_values::index(verdict), answer.draws as u64, 0];
+    *change = [
+        edge_values::index(verdict),
+        answer.draws as u64,
+        answer.lost as u64,
+    ];
     edge_values::number(verdict)
 }
 
@@ -186,7 +190,7 @@ pub fn divided(
     answer: DivisionAnswer,
 ) -> u64
     ensures { λ r. ⌜ (r ≡ numberOf (answer .verdict)) × (now (state .exit) ≡ answer .rounding .state)
-        × (now (quotient .exit) ≡ answer .value) × (now (change .exit) ≡ changeOf (answer .verdict) (answer .draws)) ⌝ }
+        × (now (quotient .exit) ≡ answer .value) × (now (change .exit) ≡ changeOf (answer .verdict) (answer .draws) 0) ⌝ }
 {
     let verdict = answer.verdict;
     let rounding = answer.rounding;

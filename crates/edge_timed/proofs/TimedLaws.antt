@@ -11,7 +11,7 @@ use Rattle.edge.specs.Calls.{updatedAt}
 use Rattle.edge.proofs.EdgeLaws.{put}
 
 module _ (w w' l : List ℕ) (k : MicroCm) (ek : k ≡ sketchOf w) (a : SketchAnswer) (g' : List ℕ) (r : ℕ)
-    (left : (r ≡ numberOf (a .verdict)) × (w' ≡ wordsAfter w a) × (l ≡ changeOf (a .verdict) (a .draws))) where
+    (left : (r ≡ numberOf (a .verdict)) × (w' ≡ wordsAfter w a) × (l ≡ changeOf (a .verdict) (a .draws) (a .lost))) where
   pub update-at-put : (key : List ℕ) (time : ℕ) (g : List ℕ) → sketchOutcome a g' ≡ updateAtCall k key time g
       → changed r w' g' l ≡ updatedAt w key time g
   update-at-put key time g e = put w w' l k ek a g' r left (updateAtCall (sketchOf w) key time g) (e ∙ rw ek)

@@ -72,12 +72,12 @@ abbrev pub watchWords : Watch → List ℕ
 watchWords w = w .count ∷ w .rows ∷ w .reached ∷ []
 
 -- A CALL THAT CHANGES A SKETCH: accepted, it leaves the clock's reading and the random state in their places, and every other word
--- as it was; it tells the index and the draws, and a word that is 0
+-- as it was; it tells the index, the draws, and the units that it lost
 abbrev pub wordsAfter : List ℕ → SketchAnswer → List ℕ
 wordsAfter w a = whenAccepted (a .verdict) (set (set w 7 (readingOf (a .sketch .clock))) 8 (a .sketch .rounding .state)) w
 
-abbrev pub changeOf : Verdict → ℕ → List ℕ
-changeOf v draws = indexOf v ∷ draws ∷ 0 ∷ []
+abbrev pub changeOf : Verdict → ℕ → ℕ → List ℕ
+changeOf v draws lost = indexOf v ∷ draws ∷ lost ∷ []
 
 pub record Changed : Type 0 where
   pub number : ℕ
@@ -90,7 +90,11 @@ changed number sketch grid change = record { number = number; sketch = sketch; g
 
 abbrev pub changedOf : List ℕ → SketchOutcome → Changed
 changedOf w o =
-    changed (numberOf (o .answer .verdict)) (wordsAfter w (o .answer)) (o .grid) (changeOf (o .answer .verdict) (o .answer .draws))
+    changed
+    (numberOf (o .answer .verdict))
+    (wordsAfter w (o .answer))
+    (o .grid)
+    (changeOf (o .answer .verdict) (o .answer .draws) (o .answer .lost))
 
 -- A FRESH START OR A LOAD: accepted, it leaves the words of the sketch and those of no codes
 abbrev pub sketchAfter : List ℕ → ServiceAnswer → List ℕ
@@ -239,7 +243,7 @@ celledOf o =
     (numberOf (o .answer .verdict))
     (o .bytes)
     (o .answer .rounding .state)
-    (changeOf (o .answer .verdict) (o .answer .draws))
+    (changeOf (o .answer .verdict) (o .answer .draws) (o .answer .lost))
 
 pub record Pixel : Type 0 where
   pub number : ℕ
@@ -272,5 +276,6 @@ pub record Divided : Type 0 where
 abbrev pub divided : ℕ → ℕ → ℕ → List ℕ → Divided
 divided number state quotient change = record { number = number; state = state; quotient = quotient; change = change }
 
+-- a division loses nothing
 abbrev pub dividedOf : DivisionAnswer → Divided
-dividedOf a = divided (numberOf (a .verdict)) (a .rounding .state) (a .value) (changeOf (a .verdict) (a .draws))
+dividedOf a = divided (numberOf (a .verdict)) (a .rounding .state) (a .value) (changeOf (a .verdict) (a .draws) 0)

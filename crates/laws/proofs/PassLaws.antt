@@ -37,13 +37,14 @@ module _ (f : ℕ → List ℕ → ℕ → Step) (size : ℕ) where
           bytes = splice (i * size) size (stepAt j i l σ .bytes) (eachOf f size j i l σ .bytes);
           state = stepAt j i l σ .state;
           draws = eachOf f size j i l σ .draws + stepAt j i l σ .draws;
+          lost = eachOf f size j i l σ .lost + stepAt j i l σ .lost;
         }
     each-suc zero j l σ room = each-cons j 0 l σ ∙ simp (each-zero, zero-mul, add-zero, zero-add)
     each-suc (suc i) j l σ room =
         let less : i * size + size ≤ length (drop size l) = rw (length-drop size l) (omega (arith, further size i)) in
         let long : length (f j (take size l) σ .bytes) ≡ size = keeps j (take size l) σ (length-take-le size l (omega arith)) in
         each-cons j (suc i) l σ ∙ ap (chain (f j (take size l) σ)) (each-suc i (suc j) (drop size l) (f j (take size l) σ .state) less)
-        ∙ rw (step-suc j i l σ, each-cons j i l σ, further size i, splice-append (i * size) size size, add-assoc)
+        ∙ rw (step-suc j i l σ, each-cons j i l σ, further size i, splice-append (i * size) size size) (simp add-assoc)
 
     step-length : (i j : ℕ) (l : List ℕ) (σ : ℕ) → i * size + size ≤ length l → length (stepAt j i l σ .bytes) ≡ size
     step-length i j l σ room = keeps (j + i) (part (i * size) size l) (eachOf f size j i l σ .state) (part-length (i * size) size l room)
@@ -81,18 +82,19 @@ module _ (f : ℕ → List ℕ → ℕ → Step) (size : ℕ) where
             rw (each-suc i j l σ (piece-room size k i (length l) h room))
             (next i (eachOf f size j i l σ .draws) (eachOf f size j i l σ .state) h (each-holds i (omega arith)))
 
--- WHERE A LOOP IS that steps from piece to piece in place: i pieces are done, and the next begins at a
-pub record Going (f : ℕ → List ℕ → ℕ → Step) (size m k : ℕ) (l₀ : List ℕ) (σ₀ : ℕ) (l : List ℕ) (σ drawn a i : ℕ) : Type 0 where
-  pub done : eachOf f size 0 k l₀ σ₀ ≡ chain (made (take a l) σ drawn) (eachOf f size i (k - i) (drop a l) σ)
+-- WHERE A LOOP IS that steps from piece to piece in place: i pieces are done, and the next begins at a; none drew more than m or lost more than q
+pub record Going (f : ℕ → List ℕ → ℕ → Step) (size m q k : ℕ) (l₀ : List ℕ) (σ₀ : ℕ) (l : List ℕ) (σ drawn lost a i : ℕ) : Type 0 where
+  pub done : eachOf f size 0 k l₀ σ₀ ≡ chain (made (take a l) σ drawn lost) (eachOf f size i (k - i) (drop a l) σ)
   pub rest : drop a l ≡ drop a l₀
   pub start : a ≡ i * size
   pub most : i ≤ k
   pub room : k * size ≤ length l₀
   pub same : length l ≡ length l₀
   pub few : drawn ≤ i * m
+  pub light : lost ≤ i * q
 
-module _ (f : ℕ → List ℕ → ℕ → Step) (size m k : ℕ) (l₀ : List ℕ) (σ₀ : ℕ) where
-  pub going-begin : k * size ≤ length l₀ → Going f size m k l₀ σ₀ l₀ σ₀ 0 0 0
+module _ (f : ℕ → List ℕ → ℕ → Step) (size m q k : ℕ) (l₀ : List ℕ) (σ₀ : ℕ) where
+  pub going-begin : k * size ≤ length l₀ → Going f size m q k l₀ σ₀ l₀ σ₀ 0 0 0 0
   going-begin h = record {
     done = simp (zero-add, sub-zero);
     rest = refl;
@@ -101,10 +103,11 @@ module _ (f : ℕ → List ℕ → ℕ → Step) (size m k : ℕ) (l₀ : List �
     room = h;
     same = refl;
     few = omega arith;
+    light = omega arith;
   }
 
-  module _ (l : List ℕ) (σ drawn a i : ℕ) (w : Going f size m k l₀ σ₀ l σ drawn a i) where
-    pub going-end : k ≤ i → made l σ drawn ≡ eachOf f size 0 k l₀ σ₀
+  module _ (l : List ℕ) (σ drawn lost a i : ℕ) (w : Going f size m q k l₀ σ₀ l σ drawn lost a i) where
+    pub going-end : k ≤ i → made l σ drawn lost ≡ eachOf f size 0 k l₀ σ₀
     going-end h =
         let e : k - i ≡ 0 = omega arith in
         sym (w .done ∙ rw (e, each-zero) (simp (take-append-drop, add-zero)))
@@ -132,22 +135,23 @@ module _ (f : ℕ → List ℕ → ℕ → Step) (size m k : ℕ) (l₀ : List �
       pub going-piece : take (a + d - a) (drop a l) ≡ part (i * size) size l₀
       going-piece = rw (w .rest) (going-beside l₀)
 
-      pub going-on : (ys : List ℕ) (s n : ℕ) → length ys ≡ length (take (a + d - a) (drop a l))
-          → made ys s n ≡ f i (take (a + d - a) (drop a l)) σ → n ≤ m
-          → Going f size m k l₀ σ₀ (take a l ++ (ys ++ drop (a + d - a) (drop a l))) s (drawn + n) (a + d) (i + 1)
-      going-on ys s n long e few =
-          let q : k - i ≡ suc (k - (i + 1)) = omega arith in
-          let here : made ys s n ≡ f i (part a size l) σ = rw mid at e in
+      pub going-on : (ys : List ℕ) (s n o : ℕ) → length ys ≡ length (take (a + d - a) (drop a l))
+          → made ys s n o ≡ f i (take (a + d - a) (drop a l)) σ → n ≤ m → o ≤ q
+          → Going f size m q k l₀ σ₀ (take a l ++ (ys ++ drop (a + d - a) (drop a l))) s (drawn + n) (lost + o) (a + d) (i + 1)
+      going-on ys s n o long e few light =
+          let next : k - i ≡ suc (k - (i + 1)) = omega arith in
+          let here : made ys s n o ≡ f i (part a size l) σ = rw mid at e in
           let full : length ys ≡ size = (rw mid at long) ∙ part-length a size l inside in
           let taken = splice-taken a size ys l inside full in
           let dropped = splice-dropped a size ys l inside full in
           rw (mid, whole)
           (record {
-            done = w .done ∙ rw (q, each-cons, ← here, taken, dropped, ← drop-drop size a l) (simp (append-assoc, add-assoc, add-one));
+            done = w .done ∙ rw (next, each-cons, ← here, taken, dropped, ← drop-drop size a l) (simp (append-assoc, add-assoc, add-one));
             rest = dropped ∙ rw (← drop-drop size a l, ← drop-drop size a l₀, w .rest);
             start = omega (arith, w .start);
             most = omega arith;
             room = w .room;
             same = splice-length a size ys l inside full ∙ w .same;
             few = omega (arith, w .few);
+            light = omega (arith, w .light);
           })

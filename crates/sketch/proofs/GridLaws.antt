@@ -95,6 +95,10 @@ module _ (k : MicroCm) (fit : Fits k) where
     unfolding insertAt
     at-drawn = inserted (k .params .t) (k .params .c) n (cellOf k g j) σ here .state
 
+    pub at-light : insertAt k n j g σ .lost ≤ 1
+    unfolding insertAt
+    at-light = inserted (k .params .t) (k .params .c) n (cellOf k g j) σ here .lost
+
   -- EACH OF THESE CELLS INSERTED INTO
   module _ (n : ℕ) where
     pub insert-each-length : (js g : List ℕ) (σ : ℕ) → allBelow (cellsOf k) js ≡ true → Holding k g → length (insertEach k n js g σ .bytes) ≡ length g

@@ -141,12 +141,12 @@ pub record SketchOutcome : Type 0 where
 abbrev pub sketchOutcome : SketchAnswer → List ℕ → SketchOutcome
 sketchOutcome r g = record { answer = r; grid = g }
 
--- the answer of a call that led to this world, and of one that drew nothing
+-- the answer of a call that led to this world, and of one that drew nothing and lost nothing
 abbrev pub answered : Verdict → World → SketchAnswer
-answered v w = record { verdict = v; sketch = w .sketch; draws = w .draws }
+answered v w = record { verdict = v; sketch = w .sketch; draws = w .draws; lost = w .lost }
 
 abbrev pub undrawn : Verdict → MicroCm → SketchAnswer
-undrawn v k = record { verdict = v; sketch = k; draws = 0 }
+undrawn v k = record { verdict = v; sketch = k; draws = 0; lost = 0 }
 
 -- the world after it if the call is accepted, and all as it was if not
 abbrev pub sketchCall : Verdict → World → World → SketchOutcome
@@ -154,7 +154,7 @@ sketchCall v after before = let w = whenAccepted v after before in sketchOutcome
 
 -- as a call finds it
 abbrev pub world : MicroCm → List ℕ → World
-world k g = record { sketch = k; grid = g; draws = 0 }
+world k g = record { sketch = k; grid = g; draws = 0; lost = 0 }
 
 -- no sketch: every call refuses it, by 1
 abbrev pub noSketch : MicroCm

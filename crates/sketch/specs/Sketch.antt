@@ -3,7 +3,7 @@ use Prim.Native.Nat.{ℕ, zero, suc, _+_, _*_}
 use mathlib.Core.List.{List, [], _∷_}
 use lib.ListN.{replicate}
 use Rattle.laws.specs.Parts.{part, splice}
-use Rattle.laws.specs.Steps.{Step, still, leaving, later}
+use Rattle.laws.specs.Steps.{Step, still, leaving, followed}
 use Rattle.laws.specs.Passes.{eachOf}
 use Rattle.rounding.specs.Draws.{seeded}
 use Rattle.cell.specs.declared.MicroParams.{MicroParams}
@@ -50,11 +50,12 @@ freshSketch rows cols params clock seed =
 abbrev pub freshGrid : MicroCm → List ℕ
 freshGrid k = replicate (gridBytes k) 0
 
--- a sketch with its grid, and how many draws led there
+-- a sketch with its grid, how many draws led there, and how many units were lost on the way
 pub record World : Type 0 where
   pub sketch : MicroCm
   pub grid : List ℕ
   pub draws : ℕ
+  pub lost : ℕ
 
 -- the sketch with another clock and another random state
 abbrev pub taking : MicroCm → SubWindowClock → ℕ → MicroCm
@@ -62,7 +63,8 @@ taking k clock σ = record { rows = k .rows; cols = k .cols; params = k .params;
 
 -- the sketch goes on with this clock, and with what a step on its grid leaves
 abbrev pub goesOn : World → SubWindowClock → Step → World
-goesOn w clock s = record { sketch = taking (w .sketch) clock (s .state); grid = s .bytes; draws = w .draws + s .draws }
+goesOn w clock s =
+    record { sketch = taking (w .sketch) clock (s .state); grid = s .bytes; draws = w .draws + s .draws; lost = w .lost + s .lost }
 
 -- an item inserted into the j-th cell
 unfoldable pub insertAt : MicroCm → ℕ → ℕ → List ℕ → ℕ → Step
@@ -73,7 +75,7 @@ insertAt k n j g σ =
 -- into each of these cells in order, drawing one after another from one state
 unfoldable pub insertEach : MicroCm → ℕ → List ℕ → List ℕ → ℕ → Step
 insertEach k n [] g σ = still g σ
-insertEach k n (j ∷ js) g σ = let s = insertAt k n j g σ in later (s .draws) (insertEach k n js (s .bytes) (s .state))
+insertEach k n (j ∷ js) g σ = let s = insertAt k n j g σ in followed s (insertEach k n js (s .bytes) (s .state))
 
 -- RECORD the key's cell in each row in order
 unfoldable pub recorded : List ℕ → World → World

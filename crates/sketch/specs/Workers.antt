@@ -45,11 +45,11 @@ rowUnit k g key row = unitOf (k .params .t) (k .params .c) (cellOf k g (keyCell 
 
 -- the grid that a pass leaves, with what it returned beside it
 abbrev pub passOf : List ℕ → Passed → Step
-passOf g r = made g (r .state) (r .draws)
+passOf g r = made g (r .state) (r .draws) (r .lost)
 
 -- the answer of an accepted call: the sketch goes on with this clock, and with the random state that a pass returned
 abbrev pub wentOn : MicroCm → SubWindowClock → Passed → SketchAnswer
-wentOn k clock p = record { verdict = Accepted; sketch = taking k clock (p .state); draws = p .draws }
+wentOn k clock p = record { verdict = Accepted; sketch = taking k clock (p .state); draws = p .draws; lost = p .lost }
 
 -- so many cells that were judged, and room for them
 pub record SoundCells (t c count : ℕ) (g : List ℕ) : Type 0 where

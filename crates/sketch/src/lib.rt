@@ -17,11 +17,13 @@ pub struct MicroCm {
     pub rounding: Rounding,
 }
 
-// What a call that may change the sketch gives beside the grid's bytes: the sketch, as it came if the call is refused.
+// What a call that may change the sketch gives beside the grid's bytes: the sketch, as it came if the call is refused, how
+// many draws it made, and how many units it lost, over all cells.
 pub struct SketchAnswer {
     pub verdict: Verdict,
     pub sketch: MicroCm,
     pub draws: u64,
+    pub lost: u64,
 }
 
 // One reading of a key: its three figures, and the fraction that the linear one used.
@@ -64,8 +66,9 @@ pub struct AuditAnswer {
     pub audit: Finding,
 }
 
-// What a pass over cells returns: the random state after it, and how many draws it made.
+// What a pass over cells returns: the random state after it, how many draws it made, and how many units it lost.
 pub struct Passed {
     pub state: u64,
     pub draws: u64,
+    pub lost: u64,
 }

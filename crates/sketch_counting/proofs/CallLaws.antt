@@ -55,7 +55,7 @@ module _ (k : MicroCm) (g l : List ℕ) (clock : SubWindowClock) (after : World)
       → left k clock (itemOf k key at g) ≡ after → sketchOutcome (countedAnswer k clock r) l ≡ sketchCall (r .verdict) after (world k g)
   item-answered key at r ec done = by (r .verdict) ec
     where
-      untouched : (v : Verdict) → passOf l (r .passed) ≡ passOf g (passed (k .rounding .state) 0)
+      untouched : (v : Verdict) → passOf l (r .passed) ≡ passOf g (passed (k .rounding .state) 0 0)
           → sketchOutcome (undrawn v k) l ≡ sketchOutcome (undrawn v k) g
       untouched v e = ap (λ (s : Step). sketchOutcome (undrawn v k) (s .bytes)) e
 
@@ -114,7 +114,7 @@ module _ (k : MicroCm) (g : List ℕ) (clock : SubWindowClock) (timestamp : ℕ)
           rw (ey, ← advance-told ev ek on, let-pass v ok asked a)
           (went-there k g l clock (advanced timestamp (world k g)) p (there ∙ rw (on .is) refl))
 
-    pub advance-stays : (p : Passed) (old new : ℕ) → y ≡ wentOn k clock p → p ≡ passed (k .rounding .state) 0
+    pub advance-stays : (p : Passed) (old new : ℕ) → y ≡ wentOn k clock p → p ≡ passed (k .rounding .state) 0 0
         → v ≡ moveVerdict k g clock (refuse 8 counts) → ok ≡ isAccepted v → not ok ≡ false
         → counts ≡ isCount (k .clock) → Onward (k .clock) (advanceOf (k .clock) timestamp) clock
         → old ≡ nOf (k .clock) → new ≡ nOf clock → new ≡ old → sketchOutcome y g ≡ advanceCall k timestamp g

@@ -54,7 +54,7 @@ pub fn advance_to(sketch: MicroCm, timestamp: u64, grid: &mut [u8]) -> SketchAns
     // Within its sub-window no cell is looked at. The crossing is called here and not by `worker::moved`: with one caller it
     // would be compiled into that, which every update runs through twice.
     if new == old {
-        let stayed = sketch_counting_passes::worker::passed(rounding.state, 0);
+        let stayed = sketch_counting_passes::worker::passed(rounding.state, 0, 0);
         return sketch_judging::answer::went_on(sketch, after, stayed);
     }
     let begun = new - old;

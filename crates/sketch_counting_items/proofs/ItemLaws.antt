@@ -6,7 +6,7 @@ use mathlib.Core.List.{List, [], _∷_}
 use lib.Dec.{eqb}
 use native.Mathlib.Nat.{add-zero, zero-add}
 use borrow.Author.Tests.{eq-eqb}
-use Rattle.laws.specs.Steps.{Step, still, later}
+use Rattle.laws.specs.Steps.{Step, still, followed}
 use Rattle.refusal.specs.declared.Verdict.{Verdict}
 use Rattle.refusal.specs.Refusals.{isAccepted}
 use Rattle.refusal.proofs.VerdictLaws.{refused-leaves, turned-back, let-pass}
@@ -19,7 +19,7 @@ use Rattle.sketch.specs.Refusals.{world}
 use Rattle.sketch.specs.Workers.{passOf}
 use Rattle.sketch_counting_passes.specs.Workers.{passed}
 use Rattle.sketch_counting_items.specs.declared.worker.Counted.{Counted}
-use Rattle.sketch_counting_items.specs.Workers.{SubWindows, windows, crossIf, itemOf, itemCounted, outcome}
+use Rattle.sketch_counting_items.specs.Workers.{SubWindows, windows, crossIf, inARow, itemOf, itemCounted, outcome}
 use Rattle.sketch_counting_items.proofs.MoveLaws.{cross-rose}
 
 -- THE STEPS of `in_order`, one after another
@@ -34,18 +34,18 @@ module _ (k : MicroCm) (key g : List ℕ) (at : SubWindows) where
   crossed-last s = crossIf (not (eqb (at .new) (at .own))) k (at .old) (at .new) (s .bytes) (s .state)
 
   in-order : (before item last : Step) → before ≡ crossed-first → item ≡ inserted before → last ≡ crossed-last item
-      → later (before .draws + item .draws) last ≡ itemOf k key at g
+      → followed (followed before item) last ≡ itemOf k key at g
   unfolding itemOf
   in-order before item last eb ei el =
-      ap (λ (r : Step). later (before .draws + item .draws) r) el
-      ∙ ap (λ (s : Step). later (before .draws + s .draws) (crossed-last s)) ei
-      ∙ ap (λ (s : Step). later (s .draws + inserted s .draws) (crossed-last (inserted s))) eb
+      ap (followed (followed before item)) el
+      ∙ ap (λ (s : Step). followed (followed before s) (crossed-last s)) ei
+      ∙ ap (λ (s : Step). followed (followed s (inserted s)) (crossed-last (inserted s))) eb
 
   module _ (before item last r : Passed) (m m' l : List ℕ) where
     pub order-done : passOf m before ≡ crossIf (not (eqb (at .own) (at .old))) k (at .old) (at .new) g (k .rounding .state)
         → passOf m' item ≡ insertEach k (at .own) (keyCells k 0 key) m (before .state)
         → passOf l last ≡ crossIf (not (eqb (at .new) (at .own))) k (at .old) (at .new) m' (item .state)
-        → r ≡ passed (last .state) (before .draws + item .draws + last .draws)
+        → r ≡ inARow before item last
         → passOf l r ≡ itemOf k key at g
     order-done eb ei el er = rw er (in-order (passOf m before) (passOf m' item) (passOf l last) eb ei el)
 
@@ -55,7 +55,7 @@ module _ (k : MicroCm) (key g : List ℕ) (at : SubWindows) where
     count-told told e = rw er e
 
     module _ (ok : Bool) (asked : ok ≡ isAccepted v) where
-      pub count-refused : not ok ≡ true → p ≡ passed (k .rounding .state) 0 → passOf g (r .passed) ≡ itemCounted (r .verdict) k key at g
+      pub count-refused : not ok ≡ true → p ≡ passed (k .rounding .state) 0 0 → passOf g (r .passed) ≡ itemCounted (r .verdict) k key at g
       count-refused h ep = rw (er, ep) (sym (refused-leaves v _ _ (turned-back v ok asked h)))
 
       pub count-done : not ok ≡ false → (l : List ℕ) → passOf l p ≡ itemOf k key at g → passOf l (r .passed) ≡ itemCounted (r .verdict) k key at g
@@ -75,7 +75,7 @@ module _ (k : MicroCm) (clock : SubWindowClock) (σ : ℕ) where
 
 -- the world that a step leaves
 abbrev pub left : MicroCm → SubWindowClock → Step → World
-left k clock s = record { sketch = taking k clock (s .state); grid = s .bytes; draws = s .draws }
+left k clock s = record { sketch = taking k clock (s .state); grid = s .bytes; draws = s .draws; lost = s .lost }
 
 module _ (k : MicroCm) (key g : List ℕ) (clock : SubWindowClock) (old new : ℕ) (eo : old ≡ nOf (k .clock)) (en : new ≡ nOf clock) where
   pub item-first : left k clock (itemOf k key (windows old new old) g) ≡ moved clock (recorded key (world k g))

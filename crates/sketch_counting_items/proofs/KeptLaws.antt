@@ -128,11 +128,12 @@ module _ (k : MicroCm) (key g : List ℕ) (at : SubWindows) (w : Countable k key
   sound-last l σ good-then = record { sound = λ h. good-cells l σ (good-then (rose-last h)) }
 
   -- the draws of at most two crossings and a recording
-  pub few-draws : (x y : ℕ) → x ≤ k .rows * k .cols * 4099 → y ≤ 128 * 4098 → x + y < 2 ^ 64
-  few-draws x y hx hy = omega (arith, cells-few k (length g) ready)
+  pub few-draws : (x y z : ℕ) → x ≤ k .rows * k .cols * 4099 → y ≤ 128 * 4098 → z ≤ k .rows * k .cols * 4099 → x + y + z < 2 ^ 64
+  few-draws x y z hx hy hz = omega (arith, cells-few k (length g) ready)
 
-  pub few-draws-more : (x y z : ℕ) → x ≤ k .rows * k .cols * 4099 → y ≤ 128 * 4098 → z ≤ k .rows * k .cols * 4099 → x + y + z < 2 ^ 64
-  few-draws-more x y z hx hy hz = omega (arith, cells-few k (length g) ready)
+  -- and what they lose
+  pub few-lost : (x y z : ℕ) → x ≤ k .rows * k .cols → y ≤ 128 → z ≤ k .rows * k .cols → x + y + z < 2 ^ 64
+  few-lost x y z hx hy hz = omega (arith, cells-few k (length g) ready)
 
 -- BEHIND the item
 pub last-sound : (k : MicroCm) (key g : List ℕ) (at : SubWindows) (l m : List ℕ) (r p : Passed)

@@ -27,11 +27,14 @@ module _ (moves : Bool) (k : MicroCm) (old new : ℕ) (g : List ℕ) (σ : ℕ) 
   unfolding crossEach
   moves-crossed e l r er = rw e er
 
-  pub moves-none : moves ≡ false → (r : Passed) → r ≡ passed σ 0 → passOf g r ≡ crossIf moves k old new g σ
+  pub moves-none : moves ≡ false → (r : Passed) → r ≡ passed σ 0 0 → passOf g r ≡ crossIf moves k old new g σ
   moves-none e r er = rw (e, er) refl
 
-  pub none-drawn : (r : Passed) → r ≡ passed σ 0 → (most : ℕ) → r .draws ≤ most
+  pub none-drawn : (r : Passed) → r ≡ passed σ 0 0 → (most : ℕ) → r .draws ≤ most
   none-drawn r er most = rw er (omega arith)
+
+  pub none-lost : (r : Passed) → r ≡ passed σ 0 0 → (most : ℕ) → r .lost ≤ most
+  none-lost r er most = rw er (omega arith)
 
 -- the test that spares a crossing by 0
 pub cross-rose : (k : MicroCm) (old new : ℕ) (moves : Bool) → moves ≡ not (eqb new old) → (g : List ℕ) (σ : ℕ)

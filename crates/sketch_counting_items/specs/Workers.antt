@@ -4,7 +4,7 @@ use mathlib.Core.Path.{_≡_}
 use mathlib.Core.Bool.{Bool, true, not, cond}
 use mathlib.Core.List.{List}
 use lib.Dec.{eqb}
-use Rattle.laws.specs.Steps.{Step, still, later}
+use Rattle.laws.specs.Steps.{Step, still, followed}
 use Rattle.refusal.specs.declared.Verdict.{Verdict}
 use Rattle.refusal.specs.declared.Verdict.the-variants.{Accepted}
 use Rattle.refusal.specs.Refusals.{whenAccepted}
@@ -15,6 +15,7 @@ use Rattle.sketch.specs.declared.Passed.{Passed}
 use Rattle.sketch.specs.Sketch.{cellsOf, keyCells, allCells, insertEach, crossEach}
 use Rattle.sketch.specs.Refusals.{keyFits, sketchVerdict}
 use Rattle.sketch.specs.Workers.{Judged, SoundCells}
+use Rattle.sketch_counting_passes.specs.Workers.{passed}
 use Rattle.sketch_counting_items.specs.declared.worker.Counted.{Counted}
 
 -- the sub-windows of a call: before it, after it, and the item's own
@@ -53,13 +54,17 @@ pub record Countable (k : MicroCm) (key g : List ℕ) (at : SubWindows) : Type 0
   pub grows : at .old ≤ at .new
   pub own-is : at .new ≡ at .old → at .own ≡ at .old
 
+-- what three passes, one after another, leave beside the grid
+abbrev pub inARow : Passed → Passed → Passed → Passed
+inARow p q r = passed (r .state) (p .draws + q .draws + r .draws) (p .lost + q .lost + r .lost)
+
 -- an item: the cells cross before it where it is not of the old sub-window, and after it where it is not of the new
 unfoldable pub itemOf : MicroCm → List ℕ → SubWindows → List ℕ → Step
 itemOf k key at g =
     let before = crossIf (not (eqb (at .own) (at .old))) k (at .old) (at .new) g (k .rounding .state) in
     let recorded = insertEach k (at .own) (keyCells k 0 key) (before .bytes) (before .state) in
     let last = crossIf (not (eqb (at .new) (at .own))) k (at .old) (at .new) (recorded .bytes) (recorded .state) in
-    later (before .draws + recorded .draws) last
+    followed (followed before recorded) last
 
 -- and nothing is done where it is refused
 abbrev pub itemCounted : Verdict → MicroCm → List ℕ → SubWindows → List ℕ → Step

@@ -7,12 +7,12 @@ use sketch::MicroCm;
 use sketch::Passed;
 use sketch_counting_passes::worker;
 ghost use mathlib.Core.Path.{_≡_};
-ghost use Prim.Native.Nat.{_*_, _≤_};
+ghost use Prim.Native.Nat.{_+_, _*_, _^_, _<_, _≤_};
 ghost use Rattle.refusal.specs.Refusals.{refuse};
 ghost use Rattle.sketch.specs.Sketch.{cellsOf};
 ghost use Rattle.sketch.specs.Refusals.{itemVerdict};
 ghost use Rattle.sketch.specs.Workers.{passOf};
-ghost use Rattle.sketch_counting_items.specs.Workers.{SoundIf, Moves, Countable, windows, crossIf, itemOf, outcome, itemCounted};
+ghost use Rattle.sketch_counting_items.specs.Workers.{SoundIf, Moves, Countable, windows, crossIf, inARow, itemOf, outcome, itemCounted};
 
 // What an item did. The sketch is not in it: whole, it would be copied on the way.
 pub struct Counted {
@@ -30,7 +30,7 @@ fn outcome(verdict: Verdict, passed: Passed) -> Counted
 fn moved(sketch: MicroCm, grid: &mut [u8], moves: bool, old: u64, new: u64, state: u64) -> Passed
     requires { ⌜ SoundIf moves sketch (now grid) × (old ≤ new) ⌝ }
     ensures { λ r. ⌜ passOf (now (grid .exit)) r ≡ crossIf moves sketch old new (now (grid .entry)) state ⌝ }
-    ensures { λ r. ⌜ r .draws ≤ cellsOf sketch * 4099 ⌝ }
+    ensures { λ r. ⌜ (r .draws ≤ cellsOf sketch * 4099) × (r .lost ≤ cellsOf sketch) ⌝ }
 {
     if moves {
         let begun = new - old;
@@ -38,7 +38,18 @@ fn moved(sketch: MicroCm, grid: &mut [u8], moves: bool, old: u64, new: u64, stat
         let cells = sketch.rows * sketch.cols;
         return worker::cross_cells(grid, params.t, params.c, cells, new, begun, state);
     }
-    worker::passed(state, 0)
+    worker::passed(state, 0, 0)
+}
+
+// What three passes, one after another, leave: the last one's state, and the draws and the losses of all.
+fn in_a_row(first: Passed, second: Passed, third: Passed) -> Passed
+    requires { ⌜ first .draws + second .draws + third .draws < 2 ^ 64 ⌝ }
+    requires { ⌜ first .lost + second .lost + third .lost < 2 ^ 64 ⌝ }
+    ensures { λ r. ⌜ r ≡ inARow first second third ⌝ }
+{
+    let draws = first.draws + second.draws + third.draws;
+    let lost = first.lost + second.lost + third.lost;
+    worker::passed(third.state, draws, lost)
 }
 
 // An accepted item: the cells cross before it where it is not of the old sub-window, and after it where it is not of the new.
@@ -50,7 +61,7 @@ fn in_order(sketch: MicroCm, key: &[u32], grid: &mut [u8], old: u64, new: u64, n
     let before = moved(sketch, grid, n != old, old, new, rounding.state);
     let recorded = worker::insert_each(sketch, &key[..], grid, n, before.state);
     let last = moved(sketch, grid, new != n, old, new, recorded.state);
-    worker::passed(last.state, before.draws + recorded.draws + last.draws)
+    in_a_row(before, recorded, last)
 }
 
 // An item for a sketch that takes the clock `after` by it: judged first, and written only where it is accepted.
@@ -80,7 +91,7 @@ pub fn count(
         holds,
     );
     if !verdict.accepted() {
-        return outcome(verdict, worker::passed(rounding.state, 0));
+        return outcome(verdict, worker::passed(rounding.state, 0, 0));
     }
     outcome(verdict, in_order(sketch, &key[..], grid, old, new, n))
 }

@@ -15,6 +15,6 @@ crossPiece t c n crossed j b σ = crossOf t c n crossed b σ
 abbrev pub crossCells : ℕ → ℕ → ℕ → ℕ → ℕ → List ℕ → ℕ → Step
 crossCells t c count n crossed g σ = eachOf (crossPiece t c n crossed) (depthOf t) 0 count g σ
 
--- the random state after a pass, and how many draws it made
-abbrev pub passed : ℕ → ℕ → Passed
-passed σ drawn = record { state = σ; draws = drawn }
+-- the random state after a pass, how many draws it made, and how many units it lost
+abbrev pub passed : ℕ → ℕ → ℕ → Passed
+passed σ drawn lost = record { state = σ; draws = drawn; lost = lost }

@@ -15,10 +15,10 @@ ghost use Rattle.sketch.specs.Workers.{Ready, Readable, SoundCells, passOf};
 ghost use Rattle.sketch_counting_passes.specs.Workers.{crossCells, passed};
 
 // What a pass leaves beside the grid.
-pub fn passed(state: u64, draws: u64) -> Passed
-    ensures { λ r. ⌜ r ≡ passed state draws ⌝ }
+pub fn passed(state: u64, draws: u64, lost: u64) -> Passed
+    ensures { λ r. ⌜ r ≡ passed state draws lost ⌝ }
 {
-    Passed { state, draws }
+    Passed { state, draws, lost }
 }
 
 fn insert_at(
@@ -45,12 +45,13 @@ fn insert_at(
 pub fn insert_each(sketch: MicroCm, key: &[u32], grid: &mut [u8], n: u64, state: u64) -> Passed
     requires { ⌜ Readable sketch (now key) (now grid) ⌝ }
     ensures { λ r. ⌜ passOf (now (grid .exit)) r ≡ insertEach sketch n (keyCells sketch 0 (now (key .entry))) (now (grid .entry)) state ⌝ }
-    ensures { λ r. ⌜ r .draws ≤ 128 * 4098 ⌝ }
+    ensures { λ r. ⌜ (r .draws ≤ 128 * 4098) × (r .lost ≤ 128) ⌝ }
 {
     let params = sketch.params;
     let slot = cell_layout::fields::slot(params.t, n);
     let mut after = state;
     let mut draws: u64 = 0;
+    let mut lost: u64 = 0;
     let mut row: usize = 0;
     while row < key.len() {
         let drawn = insert_at(
@@ -63,9 +64,10 @@ pub fn insert_each(sketch: MicroCm, key: &[u32], grid: &mut [u8], n: u64, state:
         );
         after = drawn.state;
         draws = draws + drawn.draws as u64;
+        lost = lost + drawn.lost as u64;
         row += 1;
     }
-    passed(after, draws)
+    passed(after, draws, lost)
 }
 
 // So many cells cross, in grid order.
@@ -80,12 +82,13 @@ pub fn cross_cells(
 ) -> Passed
     requires { ⌜ SoundCells t c count (now grid) × (crossed ≤ n) ⌝ }
     ensures { λ r. ⌜ passOf (now (grid .exit)) r ≡ crossCells t c count n crossed (now (grid .entry)) state ⌝ }
-    ensures { λ r. ⌜ r .draws ≤ count * 4099 ⌝ }
+    ensures { λ r. ⌜ (r .draws ≤ count * 4099) × (r .lost ≤ count) ⌝ }
 {
     let depth = cell_layout::fields::depth(t);
     let slot = cell_layout::fields::slot(t, n - crossed);
     let mut after = state;
     let mut draws: u64 = 0;
+    let mut lost: u64 = 0;
     let mut start: usize = 0;
     let mut index: usize = 0;
     while index < count {
@@ -101,8 +104,9 @@ pub fn cross_cells(
         );
         after = drawn.state;
         draws = draws + drawn.draws as u64;
+        lost = lost + drawn.lost as u64;
         start = end;
         index += 1;
     }
-    passed(after, draws)
+    passed(after, draws, lost)
 }

@@ -26,7 +26,7 @@ pub fn no_sketch() -> MicroCm
     }
 }
 
-// The answer of a call that drew nothing.
+// The answer of a call that drew nothing and lost nothing.
 pub fn undrawn(verdict: Verdict, sketch: MicroCm) -> SketchAnswer
     ensures { λ r. ⌜ r ≡ undrawn verdict sketch ⌝ }
 {
@@ -34,10 +34,12 @@ pub fn undrawn(verdict: Verdict, sketch: MicroCm) -> SketchAnswer
         verdict,
         sketch,
         draws: 0,
+        lost: 0,
     }
 }
 
-// The answer of an accepted call: the sketch goes on with this clock and with the random state that a pass returned.
+// The answer of an accepted call: the sketch goes on with this clock and with the random state that a pass returned, and
+// tells what the pass drew and lost.
 pub fn went_on(sketch: MicroCm, clock: SubWindowClock, passed: Passed) -> SketchAnswer
     ensures { λ r. ⌜ r ≡ wentOn sketch clock passed ⌝ }
 {
@@ -54,5 +56,6 @@ pub fn went_on(sketch: MicroCm, clock: SubWindowClock, passed: Passed) -> Sketch
             },
         },
         draws: passed.draws,
+        lost: passed.lost,
     }
 }

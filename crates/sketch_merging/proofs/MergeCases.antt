@@ -89,4 +89,4 @@ module _ (k : MicroCm) (g : List ℕ) (k' : MicroCm) (g' : List ℕ) (v : Verdic
     unfolding mergeCall
     merge-done n p l y en e ey =
         let e' : mergeEach k (nOf (k .clock)) g' g (k .rounding .state) ≡ passOf l p = rw (← en) (sym e) in
-        rw (ey, ← ev, accepted, e', zero-add) refl
+        rw (ey, ← ev, accepted, e') (simp zero-add)

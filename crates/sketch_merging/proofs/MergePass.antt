@@ -33,17 +33,24 @@ pair-few t c n b src σ p =
     let most : (t + 2) * maxZoom c ≤ 4098 * 31 = mul-le-mul pixels (max-zoom-limit c) in
     omega arith
 
-module _ (t c n count : ℕ) (other g₀ : List ℕ) (σ₀ : ℕ) (ok : SoundCells t c count g₀) (ok' : SoundCells t c count other) (g : List ℕ) (σ drawn a i : ℕ)
-    (w : Going (mergePiece t c n other) (depthOf t) 127038 count g₀ σ₀ g σ drawn a i) (more : i < count) where
+-- and what it loses is counted in four bytes
+pub pair-light : (x : ℕ) → x < 2 ^ 32 → x ≤ 4294967295
+pair-light x h = omega arith
+
+module _ (t c n count : ℕ) (other g₀ : List ℕ) (σ₀ : ℕ) (ok : SoundCells t c count g₀) (ok' : SoundCells t c count other) (g : List ℕ) (σ drawn lost a i : ℕ)
+    (w : Going (mergePiece t c n other) (depthOf t) 127038 4294967295 count g₀ σ₀ g σ drawn lost a i) (more : i < count) where
   pub pass-room : (k : ℕ) → k ≤ 127038 → drawn + k < 2 ^ 64
   pass-room k h = omega (arith, w .few, ok .few)
+
+  pub loss-room : (k : ℕ) → k < 2 ^ 32 → lost + k < 2 ^ 64
+  loss-room k h = omega (arith, w .light, ok .few)
 
   pub index-on : i + 1 < 2 ^ 64
   index-on = omega (arith, ok .few)
 
   module _ (d : ℕ) (ed : d ≡ depthOf t) where
     other-is : take (a + d - a) (drop a other) ≡ part (i * depthOf t) (depthOf t) other
-    other-is = going-beside (mergePiece t c n other) (depthOf t) 127038 count g₀ σ₀ g σ drawn a i w more d ed other
+    other-is = going-beside (mergePiece t c n other) (depthOf t) 127038 4294967295 count g₀ σ₀ g σ drawn lost a i w more d ed other
 
     other-long : i * depthOf t + depthOf t ≤ length other
     other-long = piece-room (depthOf t) count i (length other) more (ok' .room)
@@ -53,9 +60,9 @@ module _ (t c n count : ℕ) (other g₀ : List ℕ) (σ₀ : ℕ) (ok : SoundCe
 
     pub pair-is : Pair t c (take (a + d - a) (drop a g)) (take (a + d - a) (drop a other))
     pair-is = record {
-      fit = rw (going-length (mergePiece t c n other) (depthOf t) 127038 count g₀ σ₀ g σ drawn a i w more d ed) (ok .fit);
+      fit = rw (going-length (mergePiece t c n other) (depthOf t) 127038 4294967295 count g₀ σ₀ g σ drawn lost a i w more d ed) (ok .fit);
       fit-src = rw (other-is, part-length (i * depthOf t) (depthOf t) other other-long) (ok .fit);
-      sound = rw (going-piece (mergePiece t c n other) (depthOf t) 127038 count g₀ σ₀ g σ drawn a i w more d ed) (ok .sound i more);
+      sound = rw (going-piece (mergePiece t c n other) (depthOf t) 127038 4294967295 count g₀ σ₀ g σ drawn lost a i w more d ed) (ok .sound i more);
       sound-src = rw other-is (ok' .sound i more);
     }
 

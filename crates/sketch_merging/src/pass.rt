@@ -30,6 +30,7 @@ fn merge_cells(
     let slot = cell_layout::fields::slot(t, n);
     let mut after = state;
     let mut draws: u64 = 0;
+    let mut lost: u64 = 0;
     let mut start: usize = 0;
     let mut index: usize = 0;
     while index < count {
@@ -46,12 +47,14 @@ fn merge_cells(
         );
         after = drawn.state;
         draws = draws + drawn.draws as u64;
+        lost = lost + drawn.lost as u64;
         start = end;
         index += 1;
     }
     Passed {
         state: after,
         draws,
+        lost,
     }
 }
 

@@ -1,5 +1,5 @@
--- `add_carry`: a sum of at most 510 has room for the carry. Assumes nothing.
-use Rattle.cell_merging_sums.proofs.SumCases.{carry-fits}
+-- `add_carry`: a sum of at most 510 has room for the carry, and is 511 at the most with it. Assumes nothing.
+use Rattle.cell_merging_sums.proofs.SumCases.{carry-fits, carry-most}
 use borrow.Author.Needs.{needs}
 use Rattle.cell_merging_sums.proofs.worker.add_carry.Statement.{statement}
 use Rattle.cell_merging_sums.proofs.worker.add_carry.Tie as tie
@@ -23,7 +23,7 @@ same-length : tie.Need-same-length
 same-length c = search needs
 
 returns : tie.Need-returns
-returns c = search needs
+returns c = (search needs, search (carry-most, needs))
 
 pub add-carry-spec : {M : Type 1} → statement M
 add-carry-spec =

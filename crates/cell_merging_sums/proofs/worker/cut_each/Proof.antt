@@ -1,5 +1,5 @@
--- `cut_each`: up to i the sums cut, from i on the sums as they were. Assumes nothing.
-use Rattle.cell_merging_sums.proofs.SumLoops.{Cutting, cutting-begin, cutting-on, cutting-end}
+-- `cut_each`: up to i the sums cut, from i on the sums as they were; what was cut off so far, and what is to come, make the whole. Assumes nothing.
+use Rattle.cell_merging_sums.proofs.SumLoops.{Cutting, cutting-begin, cutting-fits, cutting-on, cutting-end, cutting-off}
 use Prim.Native.Nat.{_-_}
 use lib.ListN.{length, length-set}
 use borrow.Author.Needs.{needs}
@@ -8,13 +8,25 @@ use Rattle.cell_merging_sums.proofs.worker.cut_each.Statement.{statemen
 use Rattle.cell_merging_sums.proofs.worker.cut_each.Tie as tie
 
 abbrev Inv-loop : tie.InvT-loop
-Inv-loop sums₀ i₀ sums i = Cutting sums₀ sums i
+Inv-loop sums₀ lost₀ i₀ sums lost i = Cutting sums₀ sums lost i
 
 abbrev μ-loop : tie.MeasureT-loop
-μ-loop sums₀ i₀ sums i = length sums - i
+μ-loop sums₀ lost₀ i₀ sums lost i = length sums - i
 
 loop-holds : tie.Need-loop-holds Inv-loop μ-loop
 loop-holds c = search (cutting-begin, needs)
+
+mul-above : tie.Need-mul-above Inv-loop μ-loop
+mul-above c = search needs
+
+slice-read-above : tie.Need-slice-read-above Inv-loop μ-loop
+slice-read-above c = search needs
+
+above-requires : tie.Need-above-requires Inv-loop μ-loop
+above-requires c κs = search needs
+
+add-lost : tie.Need-add-lost Inv-loop μ-loop
+add-lost c = record { fits = search (cutting-fits, needs) }
 
 mul-cut : tie.Need-mul-cut Inv-loop μ-loop
 mul-cut c = search needs
@@ -44,7 +56,7 @@ same-length : tie.Need-same-length Inv-loop μ-loop
 same-length c = search needs
 
 returns : tie.Need-returns Inv-loop μ-loop
-returns c = search (cutting-end, needs)
+returns c = (search (cutting-end, needs), search (cutting-off, needs))
 
 pub cut-each-spec : {M : Type 1} → statement M
 cut-each-spec =
@@ -53,6 +65,10 @@ cut-each-spec =
     Inv-loop
     μ-loop
     loop-holds
+    mul-above
+    slice-read-above
+    above-requires
+    add-lost
     mul-cut
     slice-read-cut
     cut-requires

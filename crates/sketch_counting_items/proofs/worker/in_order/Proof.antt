@@ -1,6 +1,6 @@
 -- `in_order`: what was judged still holds at each step, and the steps are those of `itemOf`.
 use Rattle.sketch_counting_items.proofs.ItemLaws.{order-done}
-use Rattle.sketch_counting_items.proofs.KeptLaws.{before-sound, between-readable, last-sound, few-draws, few-draws-more}
+use Rattle.sketch_counting_items.proofs.KeptLaws.{before-sound, between-readable, last-sound, few-draws, few-lost}
 use borrow.Author.Needs.{needs}
 use Rattle.sketch_counting_items.proofs.worker.in_order.Statement.{statement}
 use Rattle.sketch_counting_items.proofs.worker.in_order.Tie as tie
@@ -19,14 +19,8 @@ moved-requires-2 c κs =
     let crossed = between .before .before in
     last-sound _ _ _ _ _ _ _ _ (recorded .insert-each .ensures .0) (crossed .moved .ensures .0) (search needs)
 
-add-passed : tie.Need-add-passed
-add-passed c = record { fits = search (few-draws, needs) }
-
-add-passed-2 : tie.Need-add-passed-2
-add-passed-2 c = record { fits = search (few-draws-more, needs) }
-
-passed-requires : tie.Need-passed-requires
-passed-requires c κs = search needs
+in-a-row-requires : tie.Need-in-a-row-requires
+in-a-row-requires c κs = (search (few-draws, needs), search (few-lost, needs))
 
 same-length : tie.Need-same-length
 same-length c = search needs
@@ -41,8 +35,6 @@ in-order-spec =
     moved-requires
     insert-each-requires
     moved-requires-2
-    add-passed
-    add-passed-2
-    passed-requires
+    in-a-row-requires
     same-length
     returns)

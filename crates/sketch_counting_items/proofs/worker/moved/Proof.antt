@@ -1,5 +1,5 @@
 -- `moved`: the cells cross where they are to, and were judged there. Assumes nothing.
-use Rattle.sketch_counting_items.proofs.MoveLaws.{moves-sound, moves-fit, moves-crossed, moves-none, none-drawn}
+use Rattle.sketch_counting_items.proofs.MoveLaws.{moves-sound, moves-fit, moves-crossed, moves-none, none-drawn, none-lost}
 use borrow.Author.Needs.{needs}
 use Rattle.sketch_counting_items.proofs.worker.moved.Statement.{statement}
 use Rattle.sketch_counting_items.proofs.worker.moved.Tie as tie
@@ -23,7 +23,7 @@ passed-requires : tie.Need-passed-requires
 passed-requires c κs = search needs
 
 returns-2 : tie.Need-returns-2
-returns-2 c = (search (moves-none, needs), search (none-drawn, needs))
+returns-2 c = (search (moves-none, needs), (search (none-drawn, needs), search (none-lost, needs)))
 
 pub moved-spec : {M : Type 1} → statement M
 moved-spec =

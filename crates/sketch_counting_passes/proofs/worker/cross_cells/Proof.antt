@@ -1,18 +1,18 @@
 -- `cross_cells`: a pass over equal pieces in place, from the front. Assumes nothing.
 use Rattle.laws.proofs.PassLaws.{going-begin, going-room, going-fits, going-on}
-use Rattle.sketch_counting_passes.proofs.CrossingPass.{Crossing, crossing-end, crossing-few}
-use Rattle.sketch_counting_passes.proofs.CrossingPass.{piece-sound, piece-fit, pass-room, index-on, few-each}
+use Rattle.sketch_counting_passes.proofs.CrossingPass.{Crossing, crossing-end, crossing-few, crossing-light}
+use Rattle.sketch_counting_passes.proofs.CrossingPass.{piece-sound, piece-fit, piece-light, pass-room, loss-room, index-on, few-each}
 use Prim.Native.Nat.{_-_}
 use borrow.Author.Needs.{needs}
 use Rattle.sketch_counting_passes.proofs.worker.cross_cells.Statement.{statement}
 use Rattle.sketch_counting_passes.proofs.worker.cross_cells.Tie as tie
 
 abbrev Inv-loop : tie.InvT-loop
-Inv-loop grid₀ t c count n crossed state depth slot after₀ draws₀ start₀ index₀ grid after draws start index =
-    Crossing t c count n crossed grid₀ state grid after draws start index
+Inv-loop grid₀ t c count n crossed state depth slot after₀ draws₀ lost₀ start₀ index₀ grid after draws lost start index =
+    Crossing t c count n crossed grid₀ state grid after draws lost start index
 
 abbrev μ-loop : tie.MeasureT-loop
-μ-loop grid₀ t c count n crossed state depth slot after₀ draws₀ start₀ index₀ grid after draws start index = count - index
+μ-loop grid₀ t c count n crossed state depth slot after₀ draws₀ lost₀ start₀ index₀ grid after draws lost start index = count - index
 
 depth-requires : tie.Need-depth-requires Inv-loop μ-loop
 depth-requires c κs = search needs
@@ -47,6 +47,12 @@ cast-draws c = search needs
 add-draws : tie.Need-add-draws Inv-loop μ-loop
 add-draws c = record { fits = search (pass-room, needs) }
 
+cast-lost : tie.Need-cast-lost Inv-loop μ-loop
+cast-lost c = search needs
+
+add-lost : tie.Need-add-lost Inv-loop μ-loop
+add-lost c = record { fits = search (loss-room, piece-light, needs) }
+
 add-index : tie.Need-add-index Inv-loop μ-loop
 add-index c = record { fits = search (index-on, needs) }
 
@@ -54,7 +60,7 @@ loop-less : tie.Need-loop-less Inv-loop μ-loop
 loop-less c = search needs
 
 loop-again : tie.Need-loop-again Inv-loop μ-loop
-loop-again c = search (going-on, few-each, needs)
+loop-again c = search (going-on, few-each, piece-light, needs)
 
 passed-requires : tie.Need-passed-requires Inv-loop μ-loop
 passed-requires c κs = search needs
@@ -63,7 +69,7 @@ same-length : tie.Need-same-length Inv-loop μ-loop
 same-length c = search needs
 
 returns : tie.Need-returns Inv-loop μ-loop
-returns c = (search (crossing-end, needs), search (crossing-few, needs))
+returns c = (search (crossing-end, needs), (search (crossing-few, needs), search (crossing-light, needs)))
 
 pub cross-cells-spec : {M : Type 1} → statement M
 cross-cells-spec =
@@ -82,6 +88,8 @@ cross-cells-spec =
     enter-sub-window-requires
     cast-draws
     add-draws
+    cast-lost
+    add-lost
     add-index
     loop-less
     loop-again

@@ -4,18 +4,18 @@ use mathlib.Core.Path.{_≡_}
 use lib.ListN.{length}
 use Rattle.laws.proofs.PassLaws.{Going, going-begin, going-room, going-fits, going-on, going-end}
 use Rattle.cell.specs.Cell.{depthOf}
-use Rattle.sketch_merging.proofs.MergePass.{pass-room, index-on, other-room, pair-is, pair-drew, pair-step}
+use Rattle.sketch_merging.proofs.MergePass.{pass-room, loss-room, index-on, other-room, pair-is, pair-drew, pair-light, pair-step}
 use Rattle.sketch_merging.specs.Workers.{mergePiece}
 use borrow.Author.Needs.{needs}
 use Rattle.sketch_merging.proofs.pass.merge_cells.Statement.{statement}
 use Rattle.sketch_merging.proofs.pass.merge_cells.Tie as tie
 
 abbrev Inv-loop : tie.InvT-loop
-Inv-loop grid₀ other work₀ t c count n state depth slot after₀ draws₀ start₀ index₀ grid work after draws start index =
-    Going (mergePiece t c n other) (depthOf t) 127038 count grid₀ state grid after draws start index × (length work ≡ 4098)
+Inv-loop grid₀ other work₀ t c count n state depth slot after₀ draws₀ lost₀ start₀ index₀ grid work after draws lost start index =
+    Going (mergePiece t c n other) (depthOf t) 127038 4294967295 count grid₀ state grid after draws lost start index × (length work ≡ 4098)
 
 abbrev μ-loop : tie.MeasureT-loop
-μ-loop grid₀ other work₀ t c count n state depth slot after₀ draws₀ start₀ index₀ grid work after draws start index = count - index
+μ-loop grid₀ other work₀ t c count n state depth slot after₀ draws₀ lost₀ start₀ index₀ grid work after draws lost start index = count - index
 
 depth-requires : tie.Need-depth-requires Inv-loop μ-loop
 depth-requires c κs = search needs
@@ -56,6 +56,12 @@ cast-draws c = search needs
 add-draws : tie.Need-add-draws Inv-loop μ-loop
 add-draws c = record { fits = search (pass-room, pair-drew, needs) }
 
+cast-lost : tie.Need-cast-lost Inv-loop μ-loop
+cast-lost c = search needs
+
+add-lost : tie.Need-add-lost Inv-loop μ-loop
+add-lost c = record { fits = search (loss-room, needs) }
+
 add-index : tie.Need-add-index Inv-loop μ-loop
 add-index c = record { fits = search (index-on, needs) }
 
@@ -63,7 +69,7 @@ loop-less : tie.Need-loop-less Inv-loop μ-loop
 loop-less c = search needs
 
 loop-again : tie.Need-loop-again Inv-loop μ-loop
-loop-again c = (search (going-on, pair-step, pair-drew, needs), search needs)
+loop-again c = (search (going-on, pair-step, pair-drew, pair-light, needs), search needs)
 
 same-length : tie.Need-same-length Inv-loop μ-loop
 same-length c = search needs
@@ -93,6 +99,8 @@ merge-cells-spec =
     merge-within-requires
     cast-draws
     add-draws
+    cast-lost
+    add-lost
     add-index
     loop-less
     loop-again
