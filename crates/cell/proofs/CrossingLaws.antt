@@ -269,6 +269,14 @@ module _ (t c n crossed : ℕ) (b : List ℕ) (σ : ℕ) (fit : Fit t c (length 
         lost-below = quiet .lost-below;
       })
 
+-- sound or not, a cell below max_zoom loses nothing
+pub cross-lost-below : (t c n crossed : ℕ) (b : List ℕ) (σ : ℕ) → Fit t c (length b) → zoomOf t b < maxZoom c → crossOf t c n crossed b σ .lost ≡ 0
+unfolding crossOf
+cross-lost-below t c n crossed b σ fit h =
+    let s = insideOf t c n crossed b σ in
+    either (λ (r : Step). r .lost ≡ 0) (eqb crossed 0) (still b σ) (leaving s (zoomInOf t c (s .bytes))) (λ e. refl)
+    (λ e. inside-quiet t c n crossed b σ fit .lost-below h)
+
 -- a far jump draws nothing
 pub inside-far : (t c n crossed : ℕ) (b : List ℕ) (σ : ℕ) → pixelsOf t ≤ crossed → insideOf t c n crossed b σ ≡ still (emptied t b) σ
 unfolding insideOf

@@ -7,7 +7,7 @@ use lib.Dec.{ltb}
 use lib.ListN.{length, set, length-set}
 use lib.Seq.{length-take-le}
 use native.Mathlib.Omega.{arith}
-use borrow.Author.Tests.{lt-ltb, ltb-true, ltb-false}
+use borrow.Author.Tests.{lt-ltb, le-ltb, ltb-true, ltb-false}
 use Rattle.laws.specs.Steps.{Step, still}
 use Rattle.laws.proofs.ChoiceLaws.{either}
 use Rattle.rounding.specs.Draws.{stateAfter}
@@ -91,10 +91,22 @@ module _ (t c slot : ℕ) (b : List ℕ) (σ : ℕ) (fit : Fit t c (length b)) w
     lost-below = λ l. divide-lost c dividends σ;
   }
 
+pub zoom-out-lost : (t c slot : ℕ) (b : List ℕ) (σ : ℕ) → zoomOutOf t c slot b σ .lost ≡ 0
+unfolding zoomOutOf
+zoom-out-lost t c slot b σ = divide-lost c (set (pixelsIn t b) slot 256) σ
+
 -- CREDIT
 pub credit-gained : (t c slot : ℕ) (b : List ℕ) (σ : ℕ) → pixelOf b slot < 255 → still (withPixel slot (pixelOf b slot + 1) b) σ ≡ creditOf t c slot b σ
 unfolding creditOf
 credit-gained t c slot b σ h = simp (lt-ltb _ _ h)
+
+pub credit-out : (t c slot : ℕ) (b : List ℕ) (σ : ℕ) → 255 ≤ pixelOf b slot → zoomOf t b < maxZoom c → creditOf t c slot b σ ≡ zoomOutOf t c slot b σ
+unfolding creditOf
+credit-out t c slot b σ full h = simp (le-ltb _ _ full, lt-ltb _ _ h)
+
+pub credit-drops : (t c slot : ℕ) (b : List ℕ) (σ : ℕ) → 255 ≤ pixelOf b slot → maxZoom c ≤ zoomOf t b → creditOf t c slot b σ ≡ dropped b σ
+unfolding creditOf
+credit-drops t c slot b σ full h = simp (le-ltb _ _ full, le-ltb _ _ h)
 
 module _ (t c slot : ℕ) (b : List ℕ) (σ : ℕ) (fit : Fit t c (length b)) (inside : slot < pixelsOf t) where
   pub credited : Credited t c b σ (creditOf t c slot b σ)

@@ -23,3 +23,5 @@ pub mod ZoomInWorked
 pub mod MergeLaws
 pub mod CauseTheorems
 pub mod NamedLaws
+pub mod LostLaws
+pub mod LostWorked

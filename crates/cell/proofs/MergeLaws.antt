@@ -1,25 +1,27 @@
 -- What a merge leaves of dst: its sums are settled, so they are bytes, and the shutters' remainder is below the unit of
 -- a zoom that settling only raises. Assumes nothing.
 use Prim.Native.Nat.{ℕ, _+_, _-_, _*_, _/_, _%_, _^_, _≤_, _<_, max}
-use mathlib.Core.Path.{_≡_, refl, sym, _∙_}
+use mathlib.Core.Path.{_≡_, refl, sym, ap, _∙_}
 use mathlib.Core.Bool.{true}
 use mathlib.Core.List.{List}
 use lib.ListN.{length, getD, length-set}
 use lib.Seq.{length-take-le}
 use native.Mathlib.Omega.{arith}
-use native.Mathlib.Nat.{mod-lt, mul-comm, mul-add, mul-le-mul-left, pow-le-pow-right, one-le-pow, lt-of-lt-of-le, div-lt-iff-lt-mul}
+use native.Mathlib.Nat.{div-add-mod', mod-lt, mul-comm, mul-add, mul-le-mul-left, pow-le-pow-right, one-le-pow, lt-of-lt-of-le, div-lt-iff-lt-mul}
 use Rattle.laws.specs.Steps.{Step}
 use Rattle.rounding.specs.Draws.{stateAfter}
-use Rattle.cell.specs.Cell.{pixelsOf, depthOf, slotOf, pixelsIn, zoomOf, shutterOf, withPixels, withZoom, withShutter, maxZoom, soundOf}
+use Rattle.cell.specs.Cell.{pixelsOf, depthOf, slotOf, pixelsIn, zoomOf, shutterOf, withPixels, withZoom, withShutter, maxZoom, soundOf, sumOf, totalOf}
 use Rattle.cell.specs.Merge.{addEach, Settled, settleOf, withCarry, mergeOf, sumsOf}
+use Rattle.cell.specs.Lost.{raisedFrom, Balances, MergeLoses}
 use Rattle.cell.specs.Workers.{Fit}
 use Rattle.cell.proofs.SmallLaws.{bounded-set}
 use Rattle.laws.proofs.SmallLaws.{Small, small-take}
-use Rattle.cell.proofs.CellLaws.{Kept, kept-same, kept-then, with-zoom-zoom, with-zoom-kept, with-pixels-kept}
-use Rattle.cell.proofs.CellLaws.{with-shutter-shutter, with-shutter-zoom, with-shutter-kept}
+use Rattle.cell.proofs.CellLaws.{Kept, kept-same, kept-then, slot-inside, with-zoom-zoom, with-zoom-pixels, with-zoom-kept, with-pixels-pixels, with-pixels-kept}
+use Rattle.cell.proofs.CellLaws.{with-shutter-shutter, with-shutter-pixels, with-shutter-zoom, with-shutter-kept}
 use Rattle.cell.proofs.PowerLaws.{max-zoom-limit, zoom-fits}
 use Rattle.cell.proofs.SoundLaws.{sound-zoom, sound-shutter, sound-is}
-use Rattle.cell.proofs.SumsLaws.{after-then, add-draws, add-state, add-length, add-sums, most-at, Settles, settles}
+use Rattle.cell.proofs.SumsLaws.{after-then, add-draws, add-state, add-length, add-sums, flat-sum, most-at, cut-lost, Settles, settles, CutFrom, settle-cut, settle-flat}
+use Rattle.cell.proofs.TotalLaws.{sum-more}
 
 -- THE TARGET
 module _ (t c : ℕ) (b src : List ℕ) (sound : soundOf t c b ≡ true) (sound' : soundOf t c src ≡ true) (base : 2 ≤ c)
@@ -48,6 +50,20 @@ module _ (t c : ℕ) (b src : List ℕ) (sound : soundOf t c b ≡ true) (sound'
         let q : c ^ zoomOf t src ≤ c ^ target = pow-le-pow-right positive target-high' in
         let h : shutters < 2 * unit = omega (arith, sound-shutter t c b sound, sound-shutter t c src sound') in
         omega (arith, div-lt-iff-lt-mul target-positive .1 h)
+
+-- a total, of what was read
+total-read : (t c : ℕ) (b : List ℕ) (s z : ℕ) (pixels : List ℕ) → shutterOf t b ≡ s → zoomOf t b ≡ z → pixelsIn t b ≡ pixels
+    → totalOf t c b ≡ s + c ^ z * sumOf pixels
+unfolding totalOf
+total-read t c b s z pixels es ez ep = rw (es, ez, ep) refl
+
+-- sums of a unit each, what is lost of them, and two shutters: the items of both cells
+counted : (unit kept lost a b shutters s s' : ℕ) → kept + lost ≡ a + b + shutters / unit → shutters ≡ s + s'
+    → shutters % unit + unit * kept + unit * lost ≡ s + unit * a + (s' + unit * b)
+counted unit kept lost a b shutters s s' e es =
+    let carry = shutters / unit in
+    let left : unit * (kept + lost) ≡ unit * (a + b + carry) = rw e refl in
+    omega (arith, left, mul-add unit kept lost, mul-add unit (a + b) carry, mul-add unit a b, div-add-mod' shutters unit, mul-comm carry unit)
 
 -- THE MERGE
 pub record Merged (t c : ℕ) (b : List ℕ) (σ : ℕ) (s : Step) : Type 0 where
@@ -157,6 +173,9 @@ module _ (t c n : ℕ) (b src : List ℕ) (σ : ℕ) (fit : Fit t c (length b)) 
       let m : pixelsOf t * (levels + (maxZoom c - target)) ≤ pixelsOf t * maxZoom c = mul-le-mul-left (pixelsOf t) (omega (arith, low)) in
       omega (arith, mul-add (pixelsOf t) levels (maxZoom c - target))
 
+  below-top : zoomOf t (withShutter t rest raised) < maxZoom c → settled .sums .lost ≡ 0
+  below-top h = ends .lost-below (omega (arith, rw merged-zoom at h, low))
+
   pub merged-leaves : Merged t c b σ (mergeOf t c n b src σ)
   unfolding mergeOf sumsOf
   merged-leaves = record {
@@ -165,5 +184,58 @@ module _ (t c n : ℕ) (b src : List ℕ) (σ : ℕ) (fit : Fit t c (length b)) 
     zoom-ge = rw merged-zoom (omega (arith, ends .zoom-ge));
     state = ends .state ∙ after-then (added .draws) _ σ (added .state) (add-state c down down' (pixelsIn t b) (pixelsIn t src) σ);
     draws = few;
-    lost-below = λ h. ends .lost-below (omega (arith, rw merged-zoom at h, low));
+    lost-below = below-top;
+  }
+
+  -- WHAT A MERGE LOSES (document 02, T-04): its pixels are the sums before any was cut, each cut to 255
+  abbrev uncut : List ℕ
+  uncut = raisedFrom c (maxZoom c - target) carried (added .state)
+
+  cut : CutFrom uncut settled
+  cut = settle-cut c (maxZoom c - target) target carried (added .state)
+
+  merged-pixels : pixelsIn t (withShutter t rest raised) ≡ settled .sums .bytes
+  merged-pixels =
+      with-shutter-pixels t rest raised raised-size ∙ with-zoom-pixels t (settled .zoom) filled
+      ∙ with-pixels-pixels t (settled .sums .bytes) b (ends .long ∙ carried-length)
+
+  -- where the zoom stays, the sums are those of the pixels and the carry
+  module _ (alike : zoomOf t src ≡ zoomOf t b) (stays : settled .zoom ≡ target) where
+    flat : target ≡ zoomOf t b
+    flat = omega (arith, alike)
+
+    flat-sums : sumOf uncut ≡ sumOf (pixelsIn t b) + sumOf (pixelsIn t src) + shutters / c ^ target
+    flat-sums =
+        let none : down ≡ 0 = omega (arith, alike) in
+        let none' : down' ≡ 0 = omega (arith, alike) in
+        let paired = pixels-length src (fit' .size-is) ∙ sym (pixels-length b (fit .size-is)) in
+        let added-sum : sumOf (added .bytes) ≡ sumOf (pixelsIn t b) + sumOf (pixelsIn t src) =
+        rw (none, none') (flat-sum c (pixelsIn t b) (pixelsIn t src) σ paired) in
+        let long : slotOf t n < length (added .bytes) =
+        rw (add-length c down down' (pixelsIn t b) (pixelsIn t src) σ paired, pixels-length b (fit .size-is)) (slot-inside t n) in
+        ap sumOf (settle-flat c (maxZoom c - target) target carried (added .state) stays)
+        ∙ sum-more (added .bytes) (slotOf t n) (shutters / c ^ target) long ∙ rw added-sum refl
+
+    flat-balance : Balances t c (withShutter t rest raised) (settled .sums .lost) (totalOf t c b + totalOf t c src)
+    flat-balance =
+        let unit = c ^ target in
+        let kept = settled .sums .bytes in
+        let lost = settled .sums .lost in
+        let whole : sumOf kept + lost ≡ sumOf (pixelsIn t b) + sumOf (pixelsIn t src) + shutters / unit = rw (cut .bytes, cut .lost) (cut-lost uncut) ∙ flat-sums in
+        let written : shutterOf t (withShutter t rest raised) ≡ rest =
+        with-shutter-shutter t rest raised raised-size (omega (arith, rest-low, zoom-fits c (fit .c-low) target low)) in
+        let after = total-read t c (withShutter t rest raised) rest target kept written (merged-zoom ∙ stays) merged-pixels in
+        let unit-after : c ^ zoomOf t (withShutter t rest raised) ≡ unit = rw (merged-zoom, stays) refl in
+        let here = total-read t c b (shutterOf t b) target (pixelsIn t b) refl (sym flat) refl in
+        let there = total-read t c src (shutterOf t src) target (pixelsIn t src) refl (alike ∙ sym flat) refl in
+        rw (after, unit-after, here, there)
+        (counted unit (sumOf kept) lost (sumOf (pixelsIn t b)) (sumOf (pixelsIn t src)) shutters (shutterOf t b) (shutterOf t src) whole refl)
+
+  pub merge-loses : MergeLoses t c n b src σ
+  unfolding mergeOf sumsOf
+  merge-loses = record {
+    pixels = merged-pixels ∙ cut .bytes;
+    sums = sym (rw (merged-pixels, cut .bytes, cut .lost) (cut-lost uncut));
+    below-top = below-top;
+    balance = λ alike stays. flat-balance alike (sym merged-zoom ∙ stays ∙ omega (arith, alike));
   }

@@ -1,7 +1,7 @@
 -- The sums of a merge, of the definitions alone: each bound is that of one division, carried along the levels, the
 -- pixels and the raises. Assumes nothing.
 use Prim.Native.Nat.{ℕ, zero, suc, _+_, _*_, _/_, _<_, _≤_, min}
-use mathlib.Core.Path.{_≡_, refl, ap, _∙_}
+use mathlib.Core.Path.{_≡_, refl, sym, ap, _∙_}
 use mathlib.Core.Bool.{true, false}
 use mathlib.Core.List.{List, [], _∷_, _++_}
 use lib.ListN.{length, getD, set}
@@ -9,7 +9,7 @@ use native.Mathlib.Omega.{arith}
 use native.Mathlib.Nat.{suc-mul, mul-le-mul, mul-le-mul-left, le-trans, div-le-of-le-mul}
 use borrow.Author.Tests.{le-leb}
 use Rattle.laws.specs.Steps.{Step, still}
-use Rattle.laws.proofs.ChoiceLaws.{either}
+use Rattle.laws.proofs.ChoiceLaws.{either, both-by}
 use Rattle.rounding.specs.declared.Divided.{Divided}
 use Rattle.rounding.specs.Draws.{stateAfter, roundedDiv}
 use Rattle.rounding.proofs.DivisionLaws.{draws-le, value-le, state-is}
@@ -18,6 +18,7 @@ use Rattle.cell.specs.Cell.{sumOf}
 use Rattle.cell.specs.Insertion.{divideEach}
 use Rattle.cell.specs.Crossing.{allAtMost}
 use Rattle.cell.specs.Merge.{scaleDown, addPair, addEach, cutEach, cutOff, Settled, settledLater, settleFrom}
+use Rattle.cell.specs.Lost.{raisedFrom}
 use Rattle.cell.proofs.DivideLaws.{quotient-small, divide-length, divide-draws, divide-state}
 use Rattle.cell.proofs.AtMostLaws.{most-cons}
 
@@ -99,6 +100,14 @@ module _ (c down down' : ℕ) where
   add-sums (x ∷ xs) [] σ base hx hy i = omega arith
   add-sums (x ∷ xs) (y ∷ ys) σ base hx hy zero = pair-value x y σ base (hx 0) (hy 0)
   add-sums (x ∷ xs) (y ∷ ys) σ base hx hy (suc i) = add-sums xs ys _ base (λ j. hx (suc j)) (λ j. hy (suc j)) i
+
+-- with no level to come down nothing is rounded
+pub flat-sum : (c : ℕ) (xs ys : List ℕ) (σ : ℕ) → length ys ≡ length xs → sumOf (addEach c 0 0 xs ys σ .bytes) ≡ sumOf xs + sumOf ys
+unfolding addEach addPair scaleDown sumOf
+flat-sum c [] [] σ e = refl
+flat-sum c [] (y ∷ ys) σ e = absurd (omega arith)
+flat-sum c (x ∷ xs) [] σ e = absurd (omega arith)
+flat-sum c (x ∷ xs) (y ∷ ys) σ e = omega (arith, flat-sum c xs ys σ (omega arith))
 
 -- ALL AT MOST m, number by number
 module _ (m : ℕ) where
@@ -194,6 +203,11 @@ pub record Settles (left z : ℕ) (l : List ℕ) (σ : ℕ) (r : Settled) : Type
   pub draws : r .sums .draws ≤ left * length l
   pub lost-below : r .zoom < z + left → r .sums .lost ≡ 0
 
+-- sums that are these, each cut to 255
+pub record CutFrom (sums : List ℕ) (r : Settled) : Type 0 where
+  pub bytes : r .sums .bytes ≡ cutEach sums
+  pub lost : r .sums .lost ≡ cutOff sums
+
 module _ (c : ℕ) where
   -- sums that fit are settled, at max_zoom too
   pub settle-fit : (left z : ℕ) (l : List ℕ) (σ : ℕ) → allAtMost 255 l ≡ true → settleFrom c left z l σ ≡ record { zoom = z; sums = still l σ }
@@ -243,6 +257,26 @@ module _ (c : ℕ) where
 
   pub settle-few : (left z : ℕ) (l : List ℕ) (σ : ℕ) → left ≤ 31 → length l ≤ 4098 → settleFrom c left z l σ .sums .draws ≤ 31 * 4098
   settle-few left z l σ h few = le-trans (settles left z l σ .draws) (mul-le-mul h few)
+
+  -- what it leaves are the sums as they are before any is cut, and then cut
+  pub settle-cut : (left z : ℕ) (l : List ℕ) (σ : ℕ) → CutFrom (raisedFrom c left l σ) (settleFrom c left z l σ)
+  unfolding settleFrom raisedFrom
+  settle-cut zero z l σ = record { bytes = refl; lost = refl }
+  settle-cut (suc left) z l σ =
+      let s : Step = divideEach c l σ in
+      let w = settle-cut left (z + 1) (s .bytes) (s .state) in
+      both-by CutFrom (allAtMost 255 l) l (raisedFrom c left (s .bytes) (s .state)) _ _
+      (λ e. record { bytes = sym (cut-fits l e); lost = sym (cut-none l e) }) (λ e. record { bytes = w .bytes; lost = w .lost })
+
+  -- where the zoom stays as it was no sum was divided
+  pub settle-flat : (left z : ℕ) (l : List ℕ) (σ : ℕ) → settleFrom c left z l σ .zoom ≡ z → raisedFrom c left l σ ≡ l
+  unfolding settleFrom raisedFrom
+  settle-flat zero z l σ = λ q. refl
+  settle-flat (suc left) z l σ =
+      let s : Step = divideEach c l σ in
+      let up = settles left (z + 1) (s .bytes) (s .state) .zoom-ge in
+      both-by (λ (sums : List ℕ) (r : Settled). r .zoom ≡ z → sums ≡ l) (allAtMost 255 l) l (raisedFrom c left (s .bytes) (s .state)) _ _
+      (λ e q. refl) (λ e q. absurd (omega (arith, up)))
 
   -- and what is cut off fits one too
   settle-lost : 2 ≤ c → (left z : ℕ) (l : List ℕ) (σ : ℕ) → allAtMost 511 l ≡ true → settleFrom c left z l σ .sums .lost ≤ 256 * length l

@@ -5,9 +5,11 @@ pub mod Merge
 pub mod Refusals
 pub mod Card
 pub mod ZoomIn
+pub mod Lost
 pub mod Causes
 pub mod Named
 pub mod Limits
 pub mod BenchSheet
 pub mod ZoomInExamples
+pub mod LostExamples
 pub mod Workers
