@@ -7,7 +7,7 @@ use lib.Dec.{leb, ltb, eqb}
 use lib.ListN.{length}
 use native.Mathlib.Omega.{arith}
 use native.Mathlib.Decide.{decLt}
-use native.Mathlib.Nat.{mul-comm, one-le-pow, eq-of-mul-eq-mul-right}
+use native.Mathlib.Nat.{mul-comm, one-mul, pow-zero, pow-suc, one-le-pow, pow-le-pow-right, zero-div, zero-mod, eq-of-mul-eq-mul-right}
 use borrow.Author.Tests.{le-leb, lt-leb, leb-true, leb-false, lt-ltb, ltb-true, ltb-false, le-ltb, eqb-true, eqb-false}
 use Rattle.laws.specs.Steps.{Step, still, leaving, later, made}
 use Rattle.laws.proofs.ChoiceLaws.{either}
@@ -17,6 +17,7 @@ use Rattle.refusal.specs.Refusals.{isAccepted}
 use Rattle.refusal.proofs.VerdictLaws.{refused-leaves, not-refused}
 use Rattle.rounding.specs.declared.Divided.{Divided}
 use Rattle.rounding.specs.Draws.{roundedDiv}
+use Rattle.rounding.proofs.DivisionLaws.{whole-case}
 use Rattle.cell.specs.declared.MicroParams.{MicroParams}
 use Rattle.cell.specs.Cell.{pixelsOf, slotOf, pixelOf, zoomOf, shutterOf, unitOf, withPixel, withShutter, maxZoom, soundOf, totalOf}
 use Rattle.cell.specs.Insertion.{zoomOutOf, dropped, creditOf, insertOf}
@@ -25,13 +26,19 @@ use Rattle.cell.specs.Merge.{mergeOf}
 use Rattle.cell.specs.Refusals.{cellCall, insertVerdict, insertCall, crossVerdict, crossCall, mergeVerdict, mergeCall}
 use Rattle.cell.specs.Lost.{noRoom, losesItem, losesClosing, oneIf, Balances, RefusedLoses, LostMeaning}
 use Rattle.cell.specs.Workers.{Fit}
-use Rattle.cell.proofs.CellLaws.{slot-inside, with-shutter-pixel, with-shutter-zoom, with-shutter-kept}
+use Rattle.cell.proofs.CellLaws.{slot-inside, with-shutter-shutter, with-shutter-pixel, with-shutter-zoom, with-shutter-kept}
+use Rattle.cell.proofs.PowerLaws.{max-zoom-limit, zoom-below}
 use Rattle.cell.proofs.JudgingLaws.{accepted-fit}
 use Rattle.cell.proofs.InsertionLaws.{credit-gained, credit-out, credit-drops, zoom-out-lost, credited, inserted}
-use Rattle.cell.proofs.CrossingLaws.{cross-lost-below}
+use Rattle.cell.proofs.CrossingLaws.{inside-quiet, zoom-in-leaves, cross-lost-below}
 use Rattle.cell.proofs.NamedLaws.{cell-names}
 use Rattle.cell.proofs.TotalLaws.{insert-balance}
 use Rattle.cell.proofs.MergeLaws.{merge-loses}
+
+never : (a b : Bool) → oneIf (a && (b && false)) ≡ 0
+never true true = refl
+never true false = refl
+never false b = refl
 
 -- CREDIT
 credit-lost : (t c slot : ℕ) (b : List ℕ) (σ : ℕ) → creditOf t c slot b σ .lost ≡ oneIf (noRoom t c slot b)
@@ -55,7 +62,7 @@ shut-lost t c slot b σ fit inside =
     ∙ rw (with-shutter-pixel t 0 b (fit .size-is) slot inside, with-shutter-zoom t 0 b (fit .size-is)) refl
 
 -- INSERTION
-insert-lost : (t c n : ℕ) (b : List ℕ) (σ : ℕ) → Fit t c (length b) → insertOf t c n b σ .lost ≡ oneIf (losesItem t c n b)
+pub insert-lost : (t c n : ℕ) (b : List ℕ) (σ : ℕ) → Fit t c (length b) → insertOf t c n b σ .lost ≡ oneIf (losesItem t c n b)
 unfolding insertOf
 insert-lost t c n b σ fit =
     either (λ (s : Step). s .lost ≡ oneIf (losesItem t c n b)) (ltb (shutterOf t b + 1) (unitOf t c b)) (still (withShutter t (shutterOf t b + 1) b) σ)
@@ -94,7 +101,7 @@ module _ (t c n crossed : ℕ) (b : List ℕ) (σ : ℕ) (fit : Fit t c (length 
       (λ e. let near : crossed < pixelsOf t = leb-false _ _ e in
       close-lost t c ended b σ fit (slot-inside t (endedOf n crossed)) ∙ simp (lt-ltb _ _ near))
 
-  cross-lost : crossOf t c n crossed b σ .lost ≡ oneIf (losesClosing t c n crossed b σ)
+  pub cross-lost : crossOf t c n crossed b σ .lost ≡ oneIf (losesClosing t c n crossed b σ)
   unfolding crossOf
   cross-lost =
       let inside = insideOf t c n crossed b σ in
@@ -119,6 +126,56 @@ insert-raise t c n b σ fit =
     either (λ (s : Step). zoomOf t b < zoomOf t (s .bytes) → s .lost ≡ 0) (ltb (shutterOf t b + 1) (unitOf t c b)) (still (withShutter t (shutterOf t b + 1) b) σ)
     (creditOf t c (slotOf t n) (withShutter t 0 b) σ) (λ e h. refl)
     (λ e h. credit-raise t c (slotOf t n) (withShutter t 0 b) σ (omega (arith, with-shutter-zoom t 0 b (fit .size-is))))
+
+-- AT MAX_ZOOM WITH AN EMPTY SHUTTER nothing is lost by the next step either, and a step from below leads to no other cell of max_zoom
+abbrev pub EmptyAtTop : ℕ → ℕ → List ℕ → Type 0
+EmptyAtTop t c b = maxZoom c ≤ zoomOf t b → shutterOf t b ≡ 0
+
+module _ (t c : ℕ) (b : List ℕ) (σ : ℕ) (fit : Fit t c (length b)) where
+  -- a unit there is of more than one item
+  pub empty-item : (n : ℕ) → EmptyAtTop t c b → oneIf (losesItem t c n b) ≡ 0
+  empty-item n empty = by (decLt (zoomOf t b) (maxZoom c))
+    where
+      by : Dec (zoomOf t b < maxZoom c) → oneIf (losesItem t c n b) ≡ 0
+      by (yes low) = sym (insert-lost t c n b σ fit) ∙ inserted t c n b σ fit .lost-below low
+      by (no top) =
+          let one : c ^ 1 ≡ c = rw (pow-suc c 0, pow-zero c) (one-mul c) in
+          let some : 1 ≤ maxZoom c = zoom-below c (fit .c-low) 1 (omega (arith, fit .c-high)) in
+          let more : c ^ 1 ≤ unitOf t c b = pow-le-pow-right (omega (arith, fit .c-low)) (omega arith) in
+          let short : shutterOf t b + 1 < unitOf t c b = omega (arith, empty (omega arith), fit .c-low) in
+          simp (lt-leb _ _ short)
+
+  pub empty-closing : (n crossed : ℕ) → EmptyAtTop t c b → crossOf t c n crossed b σ .lost ≡ 0
+  empty-closing n crossed empty = by (decLt (zoomOf t b) (maxZoom c))
+    where
+      by : Dec (zoomOf t b < maxZoom c) → crossOf t c n crossed b σ .lost ≡ 0
+      by (yes low) = cross-lost-below t c n crossed b σ fit low
+      by (no top) =
+          let unit = unitOf t c b in
+          let none : roundedDiv (shutterOf t b) unit σ .value ≡ 0 =
+          rw (empty (omega arith), ← whole-case 0 unit σ (zero-mod unit)) (zero-div unit) in
+          cross-lost t c n crossed b σ fit ∙ rw none (never (ltb 0 crossed) (ltb crossed (pixelsOf t)))
+
+  pub insert-empties : (n : ℕ) → zoomOf t b < maxZoom c → EmptyAtTop t c (insertOf t c n b σ .bytes)
+  unfolding insertOf
+  insert-empties n low =
+      let shut = withShutter t 0 b in
+      let s = shutterOf t b + 1 in
+      let kept : Fit t c (length shut) = rw (with-shutter-kept t 0 b (fit .size-is) .long) fit in
+      either (λ (r : Step). EmptyAtTop t c (r .bytes)) (ltb s (unitOf t c b)) (still (withShutter t s b) σ) (creditOf t c (slotOf t n) shut σ)
+      (λ e top. absurd (omega (arith, with-shutter-zoom t s b (fit .size-is))))
+      (λ e top. credited t c (slotOf t n) shut σ kept (slot-inside t n) .shutter ∙ with-shutter-shutter t 0 b (fit .size-is) (omega arith))
+
+  pub cross-empties : (n crossed : ℕ) → zoomOf t b < maxZoom c → EmptyAtTop t c (crossOf t c n crossed b σ .bytes)
+  unfolding crossOf
+  cross-empties n crossed low =
+      let inside = insideOf t c n crossed b σ in
+      let quiet = inside-quiet t c n crossed b σ fit in
+      let z = zoomOf t (inside .bytes) in
+      let short : z < 256 = omega (arith, quiet .zoom-low (omega arith), max-zoom-limit c) in
+      either (λ (r : Step). EmptyAtTop t c (r .bytes)) (eqb crossed 0) (still b σ) (leaving inside (zoomInOf t c (inside .bytes)))
+      (λ e top. absurd (omega arith))
+      (λ e top. zoom-in-leaves t c z (inside .bytes) (rw (quiet .kept .long) fit) (omega arith) short .shutter ∙ quiet .shutter)
 
 -- THE CALLS
 call-balance : (p : MicroParams) (n : ℕ) (b : List ℕ) (σ : ℕ) → insertCall p n b σ .answer .verdict ≡ Accepted

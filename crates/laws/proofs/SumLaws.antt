@@ -1,10 +1,10 @@
 -- Minimum, maximum and sum go term by term, so what holds of every term up to k carries over by induction on k.
 use Prim.Native.Nat.{ℕ, zero, suc, _+_, _*_, _≤_, _<_, max}
-use mathlib.Core.Path.{_≡_, sym, ap, _∙_}
+use mathlib.Core.Path.{_≡_, refl, sym, ap, _∙_}
 use mathlib.Core.Logic.{⊎-elim}
 use native.Mathlib.Omega.{arith}
 use native.Mathlib.Decide.{decLe}
-use native.Mathlib.Nat.{le-refl, le-step, le-suc-iff, max-eq-left, max-eq-right, mul-le-mul-left}
+use native.Mathlib.Nat.{add-assoc, le-refl, le-step, le-suc-iff, max-eq-left, max-eq-right, mul-le-mul-left}
 use Rattle.laws.specs.Sums.{least, largest, total}
 use Rattle.laws.specs.Within.{Within}
 
@@ -67,6 +67,22 @@ least-within (suc k) e f g h =
     let a : Within e (least k f) (least k g) = least-within k e f g (earlier k h) in
     let b : Within e (f (suc k)) (g (suc k)) = last k h in
     record { low = omega arith; high = omega arith }
+
+pub total-same : (k : ℕ) (f g : ℕ → ℕ) → ((i : ℕ) → i ≤ k → f i ≡ g i) → total k f ≡ total k g
+unfolding total
+total-same zero f g h = h 0 (le-refl 0)
+total-same (suc k) f g h = rw (total-same k f g (earlier k h), last k h) refl
+
+pub total-none : (k : ℕ) (f : ℕ → ℕ) → ((i : ℕ) → i ≤ k → f i ≡ 0) → total k f ≡ 0
+unfolding total
+total-none zero f h = h 0 (le-refl 0)
+total-none (suc k) f h = omega (arith, total-none k f (earlier k h), last k h)
+
+-- the first term, and the others
+pub total-first : (k : ℕ) (f : ℕ → ℕ) → total (suc k) f ≡ f 0 + total k (λ i. f (suc i))
+unfolding total
+total-first zero f = refl
+total-first (suc k) f = rw (total-first k f) (add-assoc (f 0) (total k (λ i. f (suc i))) (f (suc (suc k))))
 
 -- the first within e, each other within 2 e
 pub total-within : (k e : ℕ) (f g : ℕ → ℕ) → Within e (f 0) (g 0) → ((i : ℕ) → 0 < i → i ≤ k → Within (2 * e) (f i) (g i))

@@ -6,7 +6,8 @@ use mathlib.Core.List.{List, [], _∷_}
 use lib.Arith.{digits-lt}
 use lib.ListN.{length, getD}
 use native.Mathlib.Omega.{arith}
-use native.Mathlib.Nat.{suc-mul, mul-le-mul-right, add-zero}
+use native.Mathlib.Decide.{ℕ-discrete}
+use native.Mathlib.Nat.{suc-mul, mul-le-mul-right, add-zero, zero-add}
 use borrow.Author.Tests.{lt-ltb}
 use Rattle.cell.specs.Insertion.{insertOf}
 use Rattle.sketch.specs.declared.MicroCm.{MicroCm}
@@ -15,7 +16,7 @@ use Rattle.sketch.specs.Refusals.{allBelow}
 use Rattle.sketch.proofs.GridLaws.{below-first, below-rest, Holding, Fits, at-here, at-other, still-room}
 
 -- the cells of two rows are two
-rows-apart : (cols r r' a b : ℕ) → r < r' → a < cols → r * cols + a ≡ r' * cols + b → ⊥
+pub rows-apart : (cols r r' a b : ℕ) → r < r' → a < cols → r * cols + a ≡ r' * cols + b → ⊥
 rows-apart cols r r' a b h l e =
     let m : suc r * cols ≤ r' * cols = mul-le-mul-right cols h in
     omega (arith, suc-mul r cols)
@@ -27,10 +28,10 @@ module _ (k : MicroCm) where
     pub few : row + length key ≤ k .rows
 
   module _ (row x : ℕ) (xs : List ℕ) (h : KeyFrom row (x ∷ xs)) where
-    place : cellIndex k row x < cellsOf k
+    pub place : cellIndex k row x < cellsOf k
     place = digits-lt (omega (arith, h .few)) (below-first (k .cols) x xs (h .low))
 
-    key-rest : KeyFrom (suc row) xs
+    pub key-rest : KeyFrom (suc row) xs
     key-rest = record { low = below-rest (k .cols) x xs (h .low); few = omega (arith, h .few) }
 
   pub key-cells-below : (row : ℕ) (key : List ℕ) → KeyFrom row key → allBelow (cellsOf k) (keyCells k row key) ≡ true
@@ -96,3 +97,20 @@ module _ (k : MicroCm) (fit : Fits k) where
         (key-miss (suc row) xs (s .bytes) (s .state) (key-rest k row x xs h) (still-room k fit n (cellIndex k row x) g σ room p) i col (omega arith) q ne
         ∙ at-other k fit n (cellIndex k row x) g σ room p (cellIndex k (suc row + i) col)
         (λ b. rows-apart (k .cols) row (suc row + i) x col (omega arith) (below-first (k .cols) x xs (h .low)) (sym b)))
+
+    -- EVERY CELL is inserted into, from some state, or stays as it was
+    pub inserted-or-not : (key g : List ℕ) (σ : ℕ) → KeyFrom k 0 key → length key ≡ k .rows → Holding k g → (row col : ℕ) → row < k .rows → col < k .cols
+        → (F : List ℕ → Type 0)
+        → (getD key row 0 ≡ col → (τ : ℕ) → F (insertOf (k .params .t) (k .params .c) n (cellOf k g (cellIndex k row col)) τ .bytes))
+        → ((getD key row 0 ≡ col → ⊥) → F (cellOf k g (cellIndex k row col)))
+        → F (cellOf k (insertEach k n (keyCells k 0 key) g σ .bytes) (cellIndex k row col))
+    inserted-or-not key g σ h each room row col in-rows in-cols F hit miss = by (ℕ-discrete (getD key row 0) col)
+      where
+        inside : row < length key
+        inside = rw each in-rows
+
+        by : Dec (getD key row 0 ≡ col) → F (cellOf k (insertEach k n (keyCells k 0 key) g σ .bytes) (cellIndex k row col))
+        by (yes e) =
+            let is = rw (zero-add row, e) at (key-hit 0 key g σ h room row inside) in
+            rw (is .1) (hit e (is .0))
+        by (no ne) = rw (rw (zero-add row) at (key-miss 0 key g σ h room row col inside in-cols ne)) (miss ne)

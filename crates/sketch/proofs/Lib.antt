@@ -22,4 +22,7 @@ pub mod GridLaws
 pub mod KeyLaws
 pub mod WorldLaws
 pub mod ZoomInLaws
+pub mod MergeAccepted
+pub mod ItemLoss
+pub mod LostLaws
 pub mod ZoomInWorked

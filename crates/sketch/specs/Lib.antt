@@ -7,6 +7,7 @@ pub mod Causes
 pub mod Acceptance
 pub mod Mean
 pub mod ZoomIn
+pub mod Lost
 pub mod Named
 pub mod NamedExamples
 pub mod BenchSheet

@@ -39,27 +39,6 @@ module _ (first second : Verdict) (ok : Bool) (asked : ok ≡ isAccepted first) 
       pub lower-high : n < m → second ≡ lowerOf first second
       lower-high h = sym (both-refused ∙ rw (lt-leb m n h) refl)
 
-pub lower-both : (first second : Verdict) → lowerOf first second ≡ Accepted → (first ≡ Accepted) × (second ≡ Accepted)
-lower-both Accepted second e = (refl, e)
-lower-both (Refused k) Accepted e = (e, refl)
-lower-both (Refused k) (Refused j) e = by (leb k j) e
-  where
-    by : (x : Bool) → cond x (Refused k) (Refused j) ≡ Accepted → (Refused k ≡ Accepted) × (Refused j ≡ Accepted)
-    by true q = (q, cc)
-    by false q = (cc, q)
-lower-both (Refused k) (Unsound j) e = by (leb k 14) e
-  where
-    by : (x : Bool) → cond x (Refused k) (Unsound j) ≡ Accepted → (Refused k ≡ Accepted) × (Unsound j ≡ Accepted)
-    by true q = (q, cc)
-    by false q = (cc, q)
-lower-both (Unsound i) Accepted e = (e, refl)
-lower-both (Unsound i) (Refused j) e = by (leb 14 j) e
-  where
-    by : (x : Bool) → cond x (Unsound i) (Refused j) ≡ Accepted → (Unsound i ≡ Accepted) × (Refused j ≡ Accepted)
-    by true q = (q, cc)
-    by false q = (cc, q)
-lower-both (Unsound i) (Unsound j) e = (cc, cc)
-
 -- THE SAME SHAPE
 module _ (k k' : MicroCm) where
   pub other-rows : (k .rows ≡ k' .rows → ⊥) → false ≡ sameShape k k'
