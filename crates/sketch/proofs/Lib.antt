@@ -24,5 +24,7 @@ pub mod WorldLaws
 pub mod ZoomInLaws
 pub mod MergeAccepted
 pub mod ItemLoss
+pub mod WorldLoss
 pub mod LostLaws
+pub mod LostWorked
 pub mod ZoomInWorked

@@ -1,14 +1,11 @@
--- What a call loses is what its cells lose: a recording goes from row to row, a move and a merge from cell to cell, and a step's loss is added to
--- that of the steps before it. Assumes nothing.
-use Prim.Native.Nat.{ℕ, suc, _+_, _-_, _*_, _/_, _%_, _≤_, _<_}
-use mathlib.Core.Path.{_≡_, refl, sym, ap, _∙_}
+-- What a call loses, by the steps that it makes; and what it does not lose. Assumes nothing.
+use Prim.Native.Nat.{ℕ, _+_, _-_, _*_, _<_}
+use mathlib.Core.Path.{_≡_, refl, ap, _∙_}
 use mathlib.Core.Bool.{true, false, not}
 use mathlib.Core.List.{List}
-use lib.Arith.{digits-lt}
-use lib.ListN.{length, getD}
+use lib.ListN.{length}
 use borrow.Author.Tests.{not-false}
-use native.Mathlib.Omega.{arith}
-use native.Mathlib.Nat.{zero-add, mul-comm, mul-pos, div-add-mod', div-lt-iff-lt-mul, mod-lt}
+use native.Mathlib.Nat.{zero-add}
 use Rattle.laws.specs.Steps.{Step}
 use Rattle.laws.specs.Passes.{eachOf}
 use Rattle.laws.proofs.PartLaws.{part-length, piece-room}
@@ -20,156 +17,24 @@ use Rattle.refusal.specs.declared.Verdict.the-variants.{Accepted, Refused, Unso
 use Rattle.refusal.specs.Refusals.{isAccepted}
 use Rattle.refusal.proofs.VerdictLaws.{refused-leaves, not-refused}
 use Rattle.refusal.proofs.GateLaws.{gate-passed}
-use Rattle.cell.specs.declared.MicroParams.{MicroParams}
-use Rattle.cell.specs.Cell.{depthOf, zoomOf, maxZoom}
-use Rattle.cell.specs.Lost.{losesItem, losesClosing, oneIf}
+use Rattle.cell.specs.Cell.{depthOf}
 use Rattle.cell.specs.Workers.{Fit}
 use Rattle.cell.proofs.MergeLaws.{Merged, merged-leaves}
-use Rattle.cell.proofs.LostLaws.{EmptyAtTop, cross-lost, empty-item, empty-closing, insert-empties, cross-empties}
 use Rattle.clock.specs.declared.SubWindowClock.{SubWindowClock}
 use Rattle.clock.specs.Clock.{nOf, tickOf, advanceOf}
 use Rattle.sketch.specs.declared.MicroCm.{MicroCm}
-use Rattle.sketch.specs.Sketch.{cellsOf, cellIndex, cellOf, keyCells, crossCell, crossEach, World, recorded, moved, begins, stateAt, advanced}
-use Rattle.sketch.specs.Figures.{keyCell}
+use Rattle.sketch.specs.Sketch.{cellsOf, cellOf, World, recorded, moved, advanced}
 use Rattle.sketch.specs.Merge.{mergeCell, mergeEach}
 use Rattle.sketch.specs.Refusals.{keyFits, refuseKey, refuseSketch, world, sketchCall, freshVerdict, freshCall, updateVerdict, updateCall}
 use Rattle.sketch.specs.Refusals.{updateAtVerdict, updateAtCall, advanceVerdict, advanceCall, mergeVerdict, mergeCall}
 use Rattle.sketch.specs.Lost.{itemLoss, moveLoss, mergeStateAt, mergeLoss, NoneAtTop, Loses, GridLostMeaning}
-use Rattle.sketch.specs.Workers.{Ready, SoundCells}
-use Rattle.sketch.proofs.AddressLaws.{key-rows, key-column}
 use Rattle.sketch.proofs.JudgedLaws.{judged-all}
 use Rattle.sketch.proofs.SketchGates.{sketch-gate}
 use Rattle.sketch.proofs.ReadyLaws.{ready-of}
-use Rattle.sketch.proofs.GridLaws.{Holding, Fits, cell-length, fits-cell, insert-each-length, cross-each-cell, cross-each-length}
-use Rattle.sketch.proofs.KeyLaws.{key-cells-below, inserted-or-not}
-use Rattle.sketch.proofs.WorldLaws.{fits-key}
+use Rattle.sketch.proofs.GridLaws.{cell-length}
 use Rattle.sketch.proofs.MergeAccepted.{accepted-ready, accepted-judged, accepted-other}
 use Rattle.sketch.proofs.ItemLoss.{each-lost}
-
--- A WORLD with accepted settings, and room for its cells
-record Set (w : World) : Type 0 where
-  fit : Fits (w .sketch)
-  room : Holding (w .sketch) (w .grid)
-  rows-low : 1 ≤ w .sketch .rows
-  cols-low : 2 ≤ w .sketch .cols
-
-set-of : (k : MicroCm) (g : List ℕ) → Ready k (length g) → Set (world k g)
-set-of k g r = record { fit = r .fit; room = omega (arith, r .size-is); rows-low = r .rows-low; cols-low = r .cols-low }
-
-module _ (w : World) (h : Set w) where
-  abbrev k : MicroCm
-  k = w .sketch
-
-  abbrev t : ℕ
-  t = k .params .t
-
-  abbrev c : ℕ
-  c = k .params .c
-
-  abbrev g : List ℕ
-  g = w .grid
-
-  -- there is a cell
-  some : cellsOf k ≡ suc (cellsOf k - 1)
-  some = let p : 0 < k .rows * k .cols = mul-pos (h .rows-low) (omega (arith, h .cols-low)) in omega arith
-
-  inside : (j : ℕ) → j ≤ cellsOf k - 1 → j < cellsOf k
-  inside j l = omega (arith, some)
-
-  cell-fit : (j : ℕ) → j < cellsOf k → Fit t c (length (cellOf k g j))
-  cell-fit j l = fits-cell k (h .fit) (cellOf k g j) (cell-length k g j (h .room) l)
-
-  -- A MOVE
-  module _ (clock : SubWindowClock) where
-    abbrev crosses : ℕ → ℕ
-    crosses j = crossCell k (nOf clock) (begins w clock) j (cellOf k g j) (stateAt w clock j) .lost
-
-    crossed-lost : (j : ℕ) → j < cellsOf k
-        → crosses j ≡ oneIf (losesClosing t c (nOf clock) (begins w clock) (cellOf k g j) (stateAt w clock j))
-    crossed-lost j l = cross-lost t c (nOf clock) (begins w clock) (cellOf k g j) (stateAt w clock j) (cell-fit j l)
-
-    cross-each-lost : crossEach k (nOf clock) (begins w clock) g (k .rounding .state) .lost ≡ moveLoss w clock
-    unfolding crossEach
-    cross-each-lost =
-        let f = crossCell k (nOf clock) (begins w clock) in
-        ap (λ (m : ℕ). eachOf f (depthOf t) 0 m g (k .rounding .state) .lost) some
-        ∙ pieces.each-lost f (depthOf t) (cellsOf k - 1) 0 g (k .rounding .state)
-        ∙ total-same (cellsOf k - 1) _ _ (λ j l. crossed-lost j (inside j l))
-
-    moved-lost : moved clock w .lost ≡ w .lost + moveLoss w clock
-    unfolding moved
-    moved-lost = ap (λ (n : ℕ). w .lost + n) cross-each-lost
-
-    -- cells whose shutters are empty where they are at max_zoom
-    empty-moves : ((j : ℕ) → j < cellsOf k → EmptyAtTop t c (cellOf k g j)) → moveLoss w clock ≡ 0
-    empty-moves empty =
-        total-none (cellsOf k - 1) _
-        (λ j l. sym (crossed-lost j (inside j l))
-        ∙ empty-closing t c (cellOf k g j) (stateAt w clock j) (cell-fit j (inside j l)) (nOf clock) (begins w clock) (empty j (inside j l)))
-
-    moved-empty : NoneAtTop k g → (j : ℕ) → j < cellsOf k → EmptyAtTop t c (cellOf k (moved clock w .grid) j)
-    unfolding moved
-    moved-empty low j l =
-        rw (cross-each-cell k (h .fit) (nOf clock) (begins w clock) g (k .rounding .state) (h .room) j l)
-        (cross-empties t c (cellOf k g j) (stateAt w clock j) (cell-fit j l) (nOf clock) (begins w clock) (low j l))
-
-    moved-set : Set (moved clock w)
-    unfolding moved
-    moved-set = record {
-      fit = h .fit;
-      room = rw (cross-each-length k (h .fit) (nOf clock) (begins w clock) g (k .rounding .state) (h .room)) (h .room);
-      rows-low = h .rows-low;
-      cols-low = h .cols-low;
-    }
-
-  below-empty : NoneAtTop k g → (j : ℕ) → j < cellsOf k → EmptyAtTop t c (cellOf k g j)
-  below-empty low j l top = absurd (omega (arith, low j l))
-
-  -- A RECORDING
-  module _ (key : List ℕ) (fits : keyFits k key ≡ true) where
-    abbrev n : ℕ
-    n = nOf (k .clock)
-
-    recorded-lost : recorded key w .lost ≡ w .lost + itemLoss w key
-    unfolding recorded
-    recorded-lost =
-        ap (λ (m : ℕ). w .lost + m)
-        (each-lost k (h .fit) n key g (k .rounding .state) (fits-key k key fits) (key-rows k key fits) (h .rows-low) (h .room))
-
-    key-inside : (row : ℕ) → row ≤ k .rows - 1 → keyCell k key row < cellsOf k
-    key-inside row l =
-        let r : row < k .rows = omega (arith, h .rows-low) in
-        digits-lt r (key-column k key fits row r)
-
-    empty-records : ((j : ℕ) → j < cellsOf k → EmptyAtTop t c (cellOf k g j)) → itemLoss w key ≡ 0
-    empty-records empty =
-        total-none (k .rows - 1) _
-        (λ row l. let j = keyCell k key row in
-        empty-item t c (cellOf k g j) (k .rounding .state) (cell-fit j (key-inside row l)) n (empty j (key-inside row l)))
-
-    -- every cell stands in a row and a column
-    recorded-empty : NoneAtTop k g → (j : ℕ) → j < cellsOf k → EmptyAtTop t c (cellOf k (recorded key w .grid) j)
-    unfolding recorded
-    recorded-empty low j l =
-        let cols : 0 < k .cols = omega (arith, h .cols-low) in
-        let row = j / k .cols in
-        let col = j % k .cols in
-        let place : cellIndex k row col ≡ j = div-add-mod' j (k .cols) in
-        let in-rows : row < k .rows = div-lt-iff-lt-mul cols .1 l in
-        rw (← place)
-        (inserted-or-not k (h .fit) n key g (k .rounding .state) (fits-key k key fits) (key-rows k key fits) (h .room) row col in-rows (mod-lt j cols)
-        (EmptyAtTop t c)
-        (λ e τ. insert-empties t c (cellOf k g (cellIndex k row col)) τ (cell-fit (cellIndex k row col) (rw place l)) n (low (cellIndex k row col) (rw place l)))
-        (λ ne. below-empty low (cellIndex k row col) (rw place l)))
-
-    recorded-set : Set (recorded key w)
-    unfolding recorded
-    recorded-set = record {
-      fit = h .fit;
-      room = rw (insert-each-length k (h .fit) n (keyCells k 0 key) g (k .rounding .state) (key-cells-below k 0 key (fits-key k key fits)) (h .room)) (h .room);
-      rows-low = h .rows-low;
-      cols-low = h .cols-low;
-    }
+use Rattle.sketch.proofs.WorldLoss.{Set, set-of, some, inside, cell-fit, moved-lost, empty-moves, moved-empty, moved-set, below-empty, recorded-lost, empty-records, recorded-empty, recorded-set}
 
 -- THE CALLS that count, where a sketch with its grid, and then perhaps a key, were accepted
 module _ (k : MicroCm) (g : List ℕ) (rest : Verdict) (e : refuseSketch k g rest ≡ Accepted) where

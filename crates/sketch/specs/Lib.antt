@@ -13,4 +13,5 @@ pub mod NamedExamples
 pub mod BenchSheet
 pub mod MeanExamples
 pub mod ZoomInExamples
+pub mod LostExamples
 pub mod Workers
