@@ -35,12 +35,12 @@ record KeepsOn (S : Settings) (M row col : ℕ) (stages : List Stage) (T : Tally
   after : zoomNow (through stages w) (row * S .cols + col) ≤ M
 
 -- the peak is over the present and what comes
-now-peak : (w : World) (calls : List Call) (j : ℕ) → zoomNow w j ≤ peak w calls j
+pub now-peak : (w : World) (calls : List Call) (j : ℕ) → zoomNow w j ≤ peak w calls j
 unfolding peak
 now-peak w [] j = omega arith
 now-peak w (call ∷ calls) j = omega arith
 
-next-peak : (w : World) (call : Call) (calls : List Call) (j : ℕ) → peak (next w call) calls j ≤ peak w (call ∷ calls) j
+pub next-peak : (w : World) (call : Call) (calls : List Call) (j : ℕ) → peak (next w call) calls j ≤ peak w (call ∷ calls) j
 unfolding peak
 next-peak w call calls j = omega arith
 
@@ -49,7 +49,7 @@ inside-peak : (w : World) (call : Call) (calls : List Call) (j : ℕ)
 unfolding peak
 inside-peak w call calls j = omega arith
 
-crossing-peak : (w : World) (call : Call) (calls : List Call) (j : ℕ) → verdictOf w call ≡ Accepted → zoomCrossing w call j ≤ peak w (call ∷ calls) j
+pub crossing-peak : (w : World) (call : Call) (calls : List Call) (j : ℕ) → verdictOf w call ≡ Accepted → zoomCrossing w call j ≤ peak w (call ∷ calls) j
 crossing-peak w call calls j v = rw v at (inside-peak w call calls j)
 
 module _ (S : Settings) (ok : AcceptedSettings S) (M row col : ℕ) (top : M < maxZoom (S .params .c)) (hr : row < S .rows) (hl : col < S .cols) where
@@ -67,7 +67,7 @@ module _ (S : Settings) (ok : AcceptedSettings S) (M row col : ℕ) (top : M < m
     below-top = rw (h .settings) top
 
   -- the zoom falls inside a stage only: so it is no higher than what is held inside the stages to come or after them
-  rises : (stages : List Stage) (T : Tally) (w : World) → Coming S stages T w → zoomNow w j ≤ max (zoomThrough w stages j) (zoomNow (through stages w) j)
+  pub rises : (stages : List Stage) (T : Tally) (w : World) → Coming S stages T w → zoomNow w j ≤ max (zoomThrough w stages j) (zoomNow (through stages w) j)
   unfolding AllRight zoomThrough through
   rises [] T w h = omega arith
   rises (stage ∷ stages) T w h =

@@ -17,3 +17,4 @@ pub mod Examples
 pub mod KeyRight
 pub mod BandRead
 pub mod FreshStart
+pub mod Lost

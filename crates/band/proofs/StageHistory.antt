@@ -7,8 +7,6 @@ use lib.Dec.{eqb}
 use lib.Arith.{digits-lt}
 use lib.ListN.{length, getD}
 use native.Mathlib.Omega.{arith}
-use native.Mathlib.Decide.{ℕ-discrete}
-use native.Mathlib.Nat.{zero-add}
 use borrow.Author.Tests.{ne-eqb}
 use Rattle.laws.specs.Passes.{eachOf}
 use Rattle.laws.proofs.ChoiceLaws.{either}
@@ -23,7 +21,7 @@ use Rattle.sketch.specs.declared.MicroCm.{MicroCm}
 use Rattle.sketch.specs.Sketch.{cellsOf, cellIndex, cellOf, crossCell, World, recorded, moved}
 use Rattle.sketch.specs.Refusals.{keyFits}
 use Rattle.sketch.proofs.GridLaws.{Holding, Fits, fits-cell, cell-length, cross-each-cell}
-use Rattle.sketch.proofs.KeyLaws.{key-hit, key-miss}
+use Rattle.sketch.proofs.KeyLaws.{inserted-or-kept}
 use Rattle.sketch.proofs.WorldLaws.{GoodWorld, good-room, fits-key}
 use Rattle.sketch.proofs.AddressLaws.{key-rows}
 use Rattle.band.specs.Stages.{Stage, recording, moving, done}
@@ -102,15 +100,8 @@ module _ (row col : ℕ) (w : World) (p : Placed row col w) where
     inserted-or-not : (F : List ℕ → Type 0) → (getD key row 0 ≡ col → (σ : ℕ) → F (insertOf t c n (cell (w .grid)) σ .bytes))
         → ((getD key row 0 ≡ col → ⊥) → F (cell (w .grid))) → F (cell (recorded key w .grid))
     unfolding recorded
-    inserted-or-not F hit miss = by (ℕ-discrete (getD key row 0) col)
-      where
-        by : Dec (getD key row 0 ≡ col) → F (cell (recorded key w .grid))
-        by (yes e) =
-            let is = rw (zero-add row, e) at (key-hit k (p .fits) n 0 key (w .grid) (k .rounding .state) (fits-key k key fits) room row inside) in
-            rw (is .1) (hit e (is .0))
-        by (no ne) =
-            rw (rw (zero-add row) at (key-miss k (p .fits) n 0 key (w .grid) (k .rounding .state) (fits-key k key fits) room row col inside (p .in-cols) ne))
-            (miss ne)
+    inserted-or-not =
+        inserted-or-kept k (p .fits) n key (w .grid) (k .rounding .state) (fits-key k key fits) (key-rows k key fits) room row col (p .in-rows) (p .in-cols)
 
     recorded-holds : {M : ℕ} (items : ℕ → ℕ → ℕ → ℕ) → M < maxZoom c → Holds t c M n (items row col) (cell (w .grid)) → zoomNow (recorded key w) j ≤ M
         → Holds t c M n (counted n key items row col) (cell (recorded key w .grid))

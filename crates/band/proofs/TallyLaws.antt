@@ -10,7 +10,7 @@ use borrow.Author.Tests.{eq-eqb, ne-eqb}
 use Rattle.band.specs.Tally.{hits, counted}
 use Rattle.band.proofs.History.{OneMore}
 
-hits-is : (key : List ℕ) (row col : ℕ) → row < length key → hits key row col ≡ eqb (getD key row 0) col
+pub hits-is : (key : List ℕ) (row col : ℕ) → row < length key → hits key row col ≡ eqb (getD key row 0) col
 unfolding hits
 hits-is [] row col h = absurd (omega arith)
 hits-is (x ∷ key) zero col h = refl

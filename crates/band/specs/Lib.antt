@@ -3,3 +3,4 @@ pub mod Stages
 pub mod Tally
 pub mod Peak
 pub mod Band
+pub mod Lost

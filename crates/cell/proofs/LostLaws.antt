@@ -1,7 +1,7 @@
 -- WHAT IS LOST: crediting drops its unit in one of the cases of its definition, and every step above it passes that on. Assumes nothing.
-use Prim.Native.Nat.{ℕ, _+_, _*_, _^_, _≤_, _<_}
-use mathlib.Core.Path.{_≡_, refl, sym, ap, _∙_}
-use mathlib.Core.Bool.{Bool, true, false, cond, _&&_}
+use Prim.Native.Nat.{ℕ, _+_, _^_, _≤_, _<_}
+use mathlib.Core.Path.{_≡_, refl, sym, _∙_}
+use mathlib.Core.Bool.{Bool, true, false, _&&_}
 use mathlib.Core.List.{List}
 use lib.Dec.{leb, ltb, eqb}
 use lib.ListN.{length}
@@ -14,17 +14,17 @@ use Rattle.laws.proofs.ChoiceLaws.{either}
 use Rattle.refusal.specs.declared.Verdict.{Verdict}
 use Rattle.refusal.specs.declared.Verdict.the-variants.{Accepted}
 use Rattle.refusal.specs.Refusals.{isAccepted}
-use Rattle.refusal.proofs.VerdictLaws.{refused-leaves, not-refused}
+use Rattle.refusal.proofs.VerdictLaws.{refused-leaves}
 use Rattle.rounding.specs.declared.Divided.{Divided}
 use Rattle.rounding.specs.Draws.{roundedDiv}
 use Rattle.rounding.proofs.DivisionLaws.{whole-case}
 use Rattle.cell.specs.declared.MicroParams.{MicroParams}
-use Rattle.cell.specs.Cell.{pixelsOf, slotOf, pixelOf, zoomOf, shutterOf, unitOf, withPixel, withShutter, maxZoom, soundOf, totalOf}
-use Rattle.cell.specs.Insertion.{zoomOutOf, dropped, creditOf, insertOf}
+use Rattle.cell.specs.Cell.{pixelsOf, slotOf, pixelOf, zoomOf, shutterOf, unitOf, withShutter, maxZoom, totalOf}
+use Rattle.cell.specs.Insertion.{creditOf, insertOf}
 use Rattle.cell.specs.Crossing.{closeOf, clearOf, emptied, endedOf, beginOf, insideOf, zoomInOf, crossOf}
 use Rattle.cell.specs.Merge.{mergeOf}
 use Rattle.cell.specs.Refusals.{cellCall, insertVerdict, insertCall, crossVerdict, crossCall, mergeVerdict, mergeCall}
-use Rattle.cell.specs.Lost.{noRoom, losesItem, losesClosing, oneIf, Balances, RefusedLoses, LostMeaning}
+use Rattle.cell.specs.Lost.{noRoom, losesItem, losesClosing, oneIf, Balances, LostMeaning}
 use Rattle.cell.specs.Workers.{Fit}
 use Rattle.cell.proofs.CellLaws.{slot-inside, with-shutter-shutter, with-shutter-pixel, with-shutter-zoom, with-shutter-kept}
 use Rattle.cell.proofs.PowerLaws.{max-zoom-limit, zoom-below}

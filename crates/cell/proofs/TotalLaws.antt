@@ -1,5 +1,5 @@
 -- An item is one more: in the shutter, or with the shutter's items as one unit of a pixel. Only a credited 255 breaks this, by rounding, or by dropping, which is told as lost.
-use Prim.Native.Nat.{ℕ, zero, suc, _+_, _*_, _^_, _≤_, _<_}
+use Prim.Native.Nat.{ℕ, zero, suc, _+_, _^_, _≤_, _<_}
 use mathlib.Core.Path.{_≡_, refl, sym, ap, _∙_}
 use mathlib.Core.Bool.{true}
 use mathlib.Core.List.{List, [], _∷_}

@@ -99,12 +99,12 @@ module _ (k : MicroCm) (fit : Fits k) where
         (λ b. rows-apart (k .cols) row (suc row + i) x col (omega arith) (below-first (k .cols) x xs (h .low)) (sym b)))
 
     -- EVERY CELL is inserted into, from some state, or stays as it was
-    pub inserted-or-not : (key g : List ℕ) (σ : ℕ) → KeyFrom k 0 key → length key ≡ k .rows → Holding k g → (row col : ℕ) → row < k .rows → col < k .cols
+    pub inserted-or-kept : (key g : List ℕ) (σ : ℕ) → KeyFrom k 0 key → length key ≡ k .rows → Holding k g → (row col : ℕ) → row < k .rows → col < k .cols
         → (F : List ℕ → Type 0)
         → (getD key row 0 ≡ col → (τ : ℕ) → F (insertOf (k .params .t) (k .params .c) n (cellOf k g (cellIndex k row col)) τ .bytes))
         → ((getD key row 0 ≡ col → ⊥) → F (cellOf k g (cellIndex k row col)))
         → F (cellOf k (insertEach k n (keyCells k 0 key) g σ .bytes) (cellIndex k row col))
-    inserted-or-not key g σ h each room row col in-rows in-cols F hit miss = by (ℕ-discrete (getD key row 0) col)
+    inserted-or-kept key g σ h each room row col in-rows in-cols F hit miss = by (ℕ-discrete (getD key row 0) col)
       where
         inside : row < length key
         inside = rw each in-rows

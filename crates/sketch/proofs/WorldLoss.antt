@@ -25,7 +25,7 @@ use Rattle.sketch.specs.Lost.{itemLoss, moveLoss, NoneAtTop}
 use Rattle.sketch.specs.Workers.{Ready}
 use Rattle.sketch.proofs.AddressLaws.{key-rows, key-column}
 use Rattle.sketch.proofs.GridLaws.{Holding, Fits, cell-length, fits-cell, insert-each-length, cross-each-cell, cross-each-length}
-use Rattle.sketch.proofs.KeyLaws.{key-cells-below, inserted-or-not}
+use Rattle.sketch.proofs.KeyLaws.{key-cells-below, inserted-or-kept}
 use Rattle.sketch.proofs.WorldLaws.{fits-key}
 use Rattle.sketch.proofs.ItemLoss.{each-lost}
 
@@ -140,7 +140,7 @@ module _ (w : World) (h : Set w) where
         let place : cellIndex k row col ≡ j = div-add-mod' j (k .cols) in
         let in-rows : row < k .rows = div-lt-iff-lt-mul cols .1 l in
         rw (← place)
-        (inserted-or-not k (h .fit) n key g (k .rounding .state) (fits-key k key fits) (key-rows k key fits) (h .room) row col in-rows (mod-lt j cols)
+        (inserted-or-kept k (h .fit) n key g (k .rounding .state) (fits-key k key fits) (key-rows k key fits) (h .room) row col in-rows (mod-lt j cols)
         (EmptyAtTop t c)
         (λ e τ. insert-empties t c (cellOf k g (cellIndex k row col)) τ (cell-fit (cellIndex k row col) (rw place l)) n (low (cellIndex k row col) (rw place l)))
         (λ ne. below-empty low (cellIndex k row col) (rw place l)))

@@ -4,7 +4,6 @@ use mathlib.Core.Path.{_≡_}
 use mathlib.Core.List.{List, [], _∷_, _++_}
 use Rattle.refusal.specs.declared.Verdict.the-variants.{Unsound}
 use Rattle.cell.specs.BenchSheet.{cellWith}
-use Rattle.clock.specs.declared.SubWindowClock.{SubWindowClock}
 use Rattle.clock.specs.declared.SubWindowClock.the-variants.{CountBased}
 use Rattle.sketch.specs.declared.MicroCm.{MicroCm}
 use Rattle.sketch.specs.Refusals.{SketchOutcome, updateCall, updateAtCall, advanceCall, mergeCall}

@@ -1,10 +1,9 @@
 -- Two grids side by side, cell by cell in place, from the front: each cell of both was judged before the pass began. Assumes nothing.
 use Prim.Native.Nat.{ℕ, _+_, _-_, _*_, _^_, _≤_, _<_}
-use mathlib.Core.Path.{_≡_, sym, ap, _∙_}
-use mathlib.Core.Bool.{true}
+use mathlib.Core.Path.{_≡_, ap, _∙_}
 use mathlib.Core.List.{List}
 use native.Mathlib.Omega.{arith}
-use native.Mathlib.Nat.{mul-le-mul, le-trans}
+use native.Mathlib.Nat.{mul-le-mul}
 use lib.ListN.{length, take, drop}
 use Rattle.laws.specs.Parts.{part}
 use Rattle.laws.specs.Steps.{Step}
@@ -12,9 +11,9 @@ use Rattle.laws.specs.Passes.{eachOf}
 use Rattle.laws.proofs.PartLaws.{part-length, piece-room}
 use Rattle.laws.proofs.PassLaws.{Going, going-piece, going-length, going-beside}
 use Rattle.cell.specs.declared.Drawn as cell
-use Rattle.cell.specs.Cell.{depthOf, soundOf, maxZoom}
+use Rattle.cell.specs.Cell.{depthOf, maxZoom}
 use Rattle.cell.specs.Merge.{mergeOf}
-use Rattle.cell.specs.Workers.{Fit, stepOf}
+use Rattle.cell.specs.Workers.{stepOf}
 use Rattle.cell_merging.specs.Workers.{Pair}
 use Rattle.cell.proofs.PowerLaws.{max-zoom-limit}
 use Rattle.cell.proofs.MergeLaws.{merged-leaves}

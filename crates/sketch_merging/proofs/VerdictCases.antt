@@ -7,7 +7,7 @@ use lib.Dec.{leb, eqb}
 use lib.ListN.{length}
 use borrow.Author.Tests.{eq-eqb, ne-eqb, le-leb, lt-leb, not-true, not-false}
 use Rattle.refusal.specs.declared.Verdict.{Verdict}
-use Rattle.refusal.specs.declared.Verdict.the-variants.{Accepted, Refused, Unsound}
+use Rattle.refusal.specs.declared.Verdict.the-variants.{Accepted, Refused}
 use Rattle.refusal.specs.Refusals.{numberOf, isAccepted, refuse, whenAccepted}
 use Rattle.refusal.proofs.VerdictLaws.{accepted-is, refused-leaves, turned-back, let-pass, refuse-then}
 use Rattle.refusal.proofs.GateLaws.{Gate, gate-chain, gate-open, gate-shut}
