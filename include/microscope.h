@@ -10,7 +10,8 @@
  * becomes columns (a hash) is the caller's. The window is t sub-windows and the part of one more that has not left it
  * yet; a sub-window is a number of items, or a span of time in the unit of the caller's time stamps. A cell has t + 2
  * pixels of one byte and a zoom Z: a pixel is worth c^Z items. A pixel that would pass 255 raises Z; as a sub-window begins
- * Z falls again, as far as the pixels allow (microscope_cell_enter_sub_window says how far).
+ * Z falls again, as far as the pixels allow (microscope_cell_enter_sub_window says how far). At the largest Z of its base a
+ * cell loses what a full pixel cannot take, and the call says so (microscope_change).
  *
  * WHO OWNS WHAT. All memory is the caller's. The library allocates nothing, keeps nothing between calls and has no
  * variables of its own, so calls on different sketches may run at the same time; calls on one sketch may not, unless
@@ -54,10 +55,11 @@ extern "C" {
 #endif
 
 /*
- * The version of this header: 10,000 x 2 for the form of the calls, and 1 as what a call answers has changed once in this
- * form: microscope_mean. microscope_version gives that of the library.
+ * The version of this header: 10,000 x 2 for the form of the calls, and 2 as what a call answers has changed twice in this
+ * form: microscope_mean, and the third word of microscope_change, `lost`, which up to version 20001 was `room` and always 0.
+ * microscope_version gives that of the library.
  */
-#define MICROSCOPE_VERSION 20001
+#define MICROSCOPE_VERSION 20002
 
 /* The numbers. */
 enum {
@@ -173,11 +175,30 @@ typedef struct {
     uint64_t reached; /* code i was at its limit or above at the last asking: the bit of value 2^i */
 } microscope_watch;
 
-/* What a call tells that may change a sketch or a cell, or that divides. */
+/*
+ * What a call tells that may change a sketch or a cell, or that divides.
+ *
+ * LOST UNITS (document 02, T-04). A cell at the largest zoom of its base cannot zoom out any further. There a full pixel
+ * drops the unit that would credit it, and a merge cuts off what is above 255. `lost` is how many units this call lost so,
+ * added up over all rows and cells. No other cell loses any, so each is worth c^max_zoom items (microscope_base_max_zoom):
+ *
+ *     an item      1 for each of the key's cells that drops its unit at this item
+ *     a crossing   1 for each cell whose shutter, when it is closed, rounds up to a unit that a full pixel drops
+ *     a merge      of every pixel that is cut the units above 255
+ *
+ * An update that also crosses adds up both. What is cleared is not lost: it has left the window. A refused call and a
+ * division tell 0; so does every update and advance that begins with no cell at the largest zoom, and every merge that ends
+ * with none.
+ *
+ * Where units were lost figures can read low: those of every key of that cell, by up to c^max_zoom items a unit, until the
+ * sub-window that they belong to has left the window. The band is claimed for no key with a cell that ever was at the largest
+ * zoom (docs/BAND.md). So a service page adds `lost` up, call by call, and once the sum is not 0 says beside its figures that
+ * they may be too low. What to choose otherwise then: docs/CHOOSING.md.
+ */
 typedef struct {
     uint64_t index; /* with 14, else 0 */
     uint64_t draws; /* random draws that the call made */
-    uint64_t room;  /* 0: kept for what a later version tells */
+    uint64_t lost;  /* units that the call lost */
 } microscope_change;
 
 /*
@@ -268,7 +289,8 @@ uint64_t microscope_advance_to(microscope_sketch *sketch, uint64_t timestamp, ui
 
 /*
  * Adds the other sketch's counts to this one's. The other is only read. Both must have the same settings and have
- * reached the same sub-window. The reading stays this sketch's.
+ * reached the same sub-window. The reading stays this sketch's. What the pixels of a cell at the largest zoom cannot hold is
+ * cut off: `lost` is how many units that were, of all pixels and cells.
  */
 uint64_t microscope_merge(microscope_sketch *sketch, uint8_t *grid, size_t grid_bytes, const microscope_sketch *other,
                           const uint8_t *other_grid, size_t other_grid_bytes, microscope_change *change);
@@ -390,8 +412,9 @@ uint64_t microscope_ask(const microscope_sketch *sketch, microscope_watch *watch
 uint64_t microscope_depth(uint64_t t, uint64_t c, uint64_t *depth);
 
 /*
- * The largest zoom of a base, its ceiling: the largest z with c^z at most 2^32 - 1. At it a full pixel drops its unit. The
- * card (document 02, T-03; proved for every base):
+ * The largest zoom of a base, its ceiling: the largest z with c^z at most 2^32 - 1. At it a full pixel drops its unit, and a
+ * merge cuts off what is above 255; `lost` of microscope_change tells how many units of c^z items. The card (document 02,
+ * T-03; proved for every base):
  *
  *     c         2   3   4   5   6   7  8-9  10-11  12-15  16-23  24-40  41-84  85-255  256
  *     ceiling  31  20  15  13  12  11   10      9      8      7      6      5       4    3
@@ -410,7 +433,11 @@ uint64_t microscope_cell_shutter(const uint8_t *cell, size_t cell_bytes, uint64_
 uint64_t microscope_cell_scaled_pixel(const uint8_t *cell, size_t cell_bytes, uint64_t t, uint64_t c, uint64_t n,
                                       double *items);
 
-/* Records an item of sub-window n. */
+/*
+ * Records an item of sub-window n. `lost` is 1 if it completes a unit which is dropped, as the pixel is full and the zoom the
+ * largest; else 0. Where the zoom does not rise, the cell's total afterwards plus c^Z x lost is the total before plus 1
+ * (document 02, T-04); the total is the shutter and c^Z times the sum of the pixels.
+ */
 uint64_t microscope_cell_insert(uint8_t *cell, size_t cell_bytes, uint64_t t, uint64_t c, uint64_t n, uint64_t *state,
                                 microscope_change *change);
 
@@ -430,11 +457,18 @@ uint64_t microscope_cell_insert(uint8_t *cell, size_t cell_bytes, uint64_t t, ui
  * of sub-window new_n - t - 1) counts as the others do until it is cleared. Each cell of a sketch crosses so, by itself, in
  * microscope_update behind the item, in microscope_update_at before it, and in microscope_advance_to. Seen from outside, with
  * the zoom before and after a crossing, k is before - after, or one more if closing raised Z.
+ *
+ * WHAT IT LOSES (document 02, T-04). `lost` is 1 if closing credits a full pixel at the largest zoom, which drops the unit;
+ * else 0. Pixels that are cleared are not counted, nor is a shutter that rounds down or that becomes 0 in a far jump.
  */
 uint64_t microscope_cell_enter_sub_window(uint8_t *cell, size_t cell_bytes, uint64_t t, uint64_t c, uint64_t new_n,
                                           uint64_t crossed, uint64_t *state, microscope_change *change);
 
-/* Adds the counts of src to those of dst, both being in sub-window n. src is only read. */
+/*
+ * Adds the counts of src to those of dst, both being in sub-window n. src is only read. `lost` is what was cut off above 255,
+ * in units and added up over all pixels; only where dst ends at the largest zoom is anything cut. Of two cells of the same
+ * zoom, which the merge does not raise, the total afterwards plus c^Z x lost is both totals before (document 02, T-04).
+ */
 uint64_t microscope_cell_merge(uint8_t *dst, size_t dst_bytes, const uint8_t *src, size_t src_bytes, uint64_t t,
                                uint64_t c, uint64_t n, uint64_t *state, microscope_change *change);
 
@@ -452,7 +486,7 @@ uint64_t microscope_next_u64(uint64_t *state, uint64_t *value);
 
 /*
  * value / divisor, where a remainder is rounded up with the probability that it has of the divisor. One draw is made, or
- * none if nothing remains. Refused by 5, 15.
+ * none if nothing remains; `lost` is 0. Refused by 5, 15.
  */
 uint64_t microscope_unbiased_div_u64(uint64_t value, uint64_t divisor, uint64_t *state, uint64_t *quotient,
                                      microscope_change *change);
@@ -491,7 +525,7 @@ MICROSCOPE_AT(microscope_watch, reached, 16);
 MICROSCOPE_ASSERT(sizeof(microscope_change) == 24);
 MICROSCOPE_AT(microscope_change, index, 0);
 MICROSCOPE_AT(microscope_change, draws, 8);
-MICROSCOPE_AT(microscope_change, room, 16);
+MICROSCOPE_AT(microscope_change, lost, 16);
 
 MICROSCOPE_ASSERT(sizeof(microscope_figures) == 32);
 MICROSCOPE_AT(microscope_figures, over, 0);

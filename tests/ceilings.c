@@ -102,7 +102,7 @@ static uint64_t one_short(uint64_t c, uint64_t zoom) {
     return unit - 1;
 }
 
-/* What a call must do: 14 above the ceiling; at it drop the unit, or cut the sum; below it raise the zoom. */
+/* What a call must do: 14 above the ceiling; at it drop the unit, or cut the sum, and say so; below it raise the zoom. */
 enum { JUDGED, INSERTED, CLOSED, MERGED, CALLS };
 static const char *const names[CALLS] = {"judged", "inserted", "closed", "merged"};
 
@@ -121,12 +121,12 @@ static bool inserted(uint64_t c, uint64_t zoom) {
     uint64_t number = microscope_cell_insert(cell, DEPTH, T, c, 0, &state, &change);
     bool raised = zoom < ceiling(c);
     return number == MICROSCOPE_ACCEPTED && cell[zoom_at(T)] == zoom + raised && (change.draws > 0) == raised &&
-           (cell[0] == FULL) == !raised;
+           (cell[0] == FULL) == !raised && change.lost == !raised;
 }
 
-/* Closing makes one draw, and gives a unit for most states; only a raise makes more. */
+/* Closing makes one draw, and gives a unit for most states; only a raise makes more, and only at the ceiling is it lost. */
 static bool closed(uint64_t c, uint64_t zoom) {
-    bool raised = false;
+    bool raised = false, lost = false;
     for (uint64_t seed = 1; seed <= 64; seed++) {
         uint8_t cell[DEPTH];
         uint64_t state = microscope_rounding_new(seed);
@@ -136,9 +136,10 @@ static bool closed(uint64_t c, uint64_t zoom) {
             return false;
         }
         raised = raised || change.draws > 1;
+        lost = lost || change.lost == 1;
     }
     /* At zoom 0 there is nothing to close. */
-    return raised == (zoom > 0 && zoom < ceiling(c));
+    return raised == (zoom > 0 && zoom < ceiling(c)) && lost == (zoom == ceiling(c));
 }
 
 static bool merged(uint64_t c, uint64_t zoom) {
@@ -149,8 +150,9 @@ static bool merged(uint64_t c, uint64_t zoom) {
     full_cell(src, zoom, 0);
     uint64_t number = microscope_cell_merge(dst, DEPTH, src, DEPTH, T, c, 0, &state, &change);
     bool raised = zoom < ceiling(c);
-    /* 2 x 255 by 2 is still 255. */
-    return number == MICROSCOPE_ACCEPTED && dst[zoom_at(T)] == zoom + raised && (dst[0] == FULL) == (!raised || c == 2);
+    /* 2 x 255 by 2 is still 255. Of 510 at the ceiling 255 units are cut. */
+    return number == MICROSCOPE_ACCEPTED && dst[zoom_at(T)] == zoom + raised && (dst[0] == FULL) == (!raised || c == 2) &&
+           change.lost == (raised ? 0 : FULL);
 }
 
 static void every_call(void) {

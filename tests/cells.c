@@ -134,9 +134,17 @@ static struct work work_on(struct bytes given, uint64_t state) {
     };
 }
 
+/* Lost units are told where there are any. */
+static void tell_lost(uint64_t lost) {
+    if (lost != 0) {
+        printf(", lost %" PRIu64, lost);
+    }
+}
+
 static void tell_change(uint64_t number, struct work work, uint64_t state, struct bytes given) {
     tell_verdict(": ", number, work.change->index);
     printf(", draws %" PRIu64, work.change->draws);
+    tell_lost(work.change->lost);
     tell_state(*work.state, state);
     tell_left((struct bytes){work.cell, given.count}, given);
     printf("\n");

@@ -91,7 +91,7 @@ static void count(struct tally *tally, struct answer came, struct answer right) 
         show(right);
         printf("; came: ");
         show(came);
-        printf(", draws %" PRIu64 "\n", came.change.draws);
+        printf(", draws %" PRIu64 ", lost %" PRIu64 "\n", came.change.draws, came.change.lost);
     }
 }
 

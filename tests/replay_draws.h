@@ -33,6 +33,7 @@ static void divide(const uint8_t *record) {
     hold("refused by", 0,
          microscope_unbiased_div_u64(u64_at(record, 24), u64_at(record, 32), &state, &quotient, &change));
     hold("draws", u32_at(record, 4), change.draws);
+    hold("lost", 0, change.lost);
     hold("state", u64_at(record, 16), state);
     hold("value", u64_at(record, 40), quotient);
 }

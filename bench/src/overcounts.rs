@@ -287,7 +287,7 @@ impl Rounded {
         for n in 0..SUB_WINDOWS {
             exact.push(load.items(n, choice));
             for _ in 0..exact[n] {
-                self.draws += counter.update_at(&[0], n as u64)?;
+                self.draws += counter.update_at(&[0], n as u64)?.draws;
             }
             self.items += exact[n];
             self.zoom = self.zoom.max(counter.max_zoom()?);

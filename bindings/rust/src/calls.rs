@@ -216,14 +216,15 @@ pub fn new(
     told(unsafe { microscope_new(sketch, watch, rows, cols, t, c, kind, length, epoch, seed, at, bytes) })
 }
 
-/// One item, on a clock of items.
+/// One item, on a clock of items. [`Change::lost`] counts the units that the key's cells drop and, if the item was the last of
+/// its sub-window, those that closed shutters drop in the whole grid.
 pub fn update(sketch: &mut Sketch, key: &[u32], grid: &mut [u8], change: &mut Change) -> Result<(), Refusal> {
     // SAFETY: key and grid come with their own lengths; sketch, grid and change are borrowed exclusively.
     let number = unsafe { microscope_update(sketch, key.as_ptr(), key.len(), grid.as_mut_ptr(), grid.len(), change) };
     Refusal::unless_accepted(number, change.index)
 }
 
-/// One item at this time, on a clock of time.
+/// One item at this time, on a clock of time. [`Change::lost`] is as in [`update`].
 pub fn update_at(
     sketch: &mut Sketch,
     key: &[u32],
@@ -246,14 +247,16 @@ pub fn update_at(
     Refusal::unless_accepted(number, change.index)
 }
 
-/// Time passes without an item.
+/// Time passes without an item. [`Change::lost`] counts the units that closed shutters drop, if it crosses into another
+/// sub-window.
 pub fn advance_to(sketch: &mut Sketch, timestamp: u64, grid: &mut [u8], change: &mut Change) -> Result<(), Refusal> {
     // SAFETY: the grid comes with its own length; sketch, grid and change are borrowed exclusively.
     let number = unsafe { microscope_advance_to(sketch, timestamp, grid.as_mut_ptr(), grid.len(), change) };
     Refusal::unless_accepted(number, change.index)
 }
 
-/// Adds the other sketch's counts to this one's. The other is only read.
+/// Adds the other sketch's counts to this one's. The other is only read. [`Change::lost`] counts the units that are cut off
+/// above 255, of all pixels of all cells; a merge that leaves every cell below its ceiling cuts none.
 pub fn merge(
     sketch: &mut Sketch,
     grid: &mut [u8],
@@ -470,8 +473,8 @@ pub fn depth(t: u64, c: u64, depth: &mut u64) -> Result<(), Refusal> {
     told(unsafe { microscope_depth(t, c, depth) })
 }
 
-/// The largest zoom of a base, its ceiling: the largest z with c^z ≤ 2^32 − 1. At it a full pixel drops its unit. The card
-/// (document 02, T-03; proved for every base):
+/// The largest zoom of a base, its ceiling: the largest z with c^z ≤ 2^32 − 1. At it a full pixel drops its unit, which the
+/// call then tells ([`Change::lost`]). The card (document 02, T-03; proved for every base):
 ///
 /// | c | 2 | 3 | 4 | 5 | 6 | 7 | 8-9 | 10-11 | 12-15 | 16-23 | 24-40 | 41-84 | 85-255 | 256 |
 /// |---|---|---|---|---|---|---|---|---|---|---|---|---|---|---|
@@ -512,7 +515,9 @@ pub fn cell_scaled_pixel(cell: &[u8], t: u64, c: u64, n: u64, items: &mut f64) -
     told(unsafe { microscope_cell_scaled_pixel(cell.as_ptr(), cell.len(), t, c, n, items) })
 }
 
-/// Records an item of sub-window n.
+/// Records an item of sub-window n. [`Change::lost`] is 1 if the item completes a unit, the pixel of n is full and the cell is
+/// at its ceiling: the unit is dropped. Where the zoom is not raised, the total afterwards plus c^Z × lost equals the total
+/// before plus 1 (document 02, T-04); a cell's total is its shutter plus c^Z × the sum of its pixels.
 pub fn cell_insert(
     cell: &mut [u8],
     t: u64,
@@ -531,6 +536,9 @@ pub fn cell_insert(
 /// may raise Z by 1, and the pixels of the sub-windows that begin are cleared (by t + 2 or more: once all are 0), Z falls by
 /// exactly k, the largest k ≤ Z for which c^k × the largest pixel ≤ 255. Every pixel becomes c^k × itself, so that it is worth
 /// as many items as before; all pixels 0 gives k = Z.
+///
+/// [`Change::lost`] is 1 if the closed shutter is rounded up into a full pixel of a cell at its ceiling. What is cleared is not
+/// lost: it has left the window.
 ///
 /// ```
 /// use microscope::calls::{Change, cell_enter_sub_window};
@@ -559,7 +567,20 @@ pub fn cell_enter_sub_window(
     })
 }
 
-/// Adds the counts of src to those of dst.
+/// Adds the counts of src to those of dst. [`Change::lost`] counts the units cut off above 255, of all pixels, which happens at
+/// the ceiling only.
+///
+/// ```
+/// use microscope::calls::{Change, cell_merge};
+///
+/// // t = 1, c = 2, both at zoom 31, the ceiling: of 255 + 1 and 200 + 100 the units above 255 are cut off.
+/// let (mut dst, src) = ([255, 200, 7, 31, 0, 0, 0, 0], [1, 100, 7, 31, 0, 0, 0, 0]);
+/// let (mut state, mut change) = (1, Change::default());
+/// cell_merge(&mut dst, &src, 1, 2, 0, &mut state, &mut change)?;
+/// assert_eq!(dst, [255, 255, 14, 31, 0, 0, 0, 0]);
+/// assert_eq!(change.lost, 1 + 45);
+/// # Ok::<(), microscope::Refusal>(())
+/// ```
 pub fn cell_merge(
     dst: &mut [u8],
     src: &[u8],

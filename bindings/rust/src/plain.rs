@@ -6,7 +6,7 @@ use core::mem::{offset_of, size_of};
 
 /// The version of the library that these declarations go with; [`version`](crate::calls::version) gives that of the one
 /// that was linked.
-pub const VERSION: u64 = 20_001;
+pub const VERSION: u64 = 20_002;
 
 /// The kind of a clock whose sub-windows are a number of items.
 pub const ITEMS: u64 = 0;
@@ -97,6 +97,23 @@ pub struct Watch {
 /// assert_eq!((answer, change.index), (Err(Refusal::Unsound { index: 17 }), 17));
 /// # Ok::<(), microscope::Refusal>(())
 /// ```
+///
+/// A unit is lost where a full pixel is to have one more and the cell is at the ceiling of its base
+/// ([`base_max_zoom`](crate::calls::base_max_zoom)), so that it cannot zoom out. What the cell counts is then too low by the
+/// items of that unit, c^max_zoom, until the pixel's sub-window has left the window. Who shows figures adds up `lost`: once it
+/// is not 0, they may read low.
+///
+/// ```
+/// use microscope::calls::{self, Change};
+///
+/// // t = 1, c = 2: the pixels 255 0 0 at zoom 31, and a shutter that lacks one item of a unit, 2^31.
+/// let mut cell = [255, 0, 0, 31, 0xff, 0xff, 0xff, 0x7f];
+/// let (mut state, mut change) = (1, Change::default());
+/// calls::cell_insert(&mut cell, 1, 2, 0, &mut state, &mut change)?;
+/// assert_eq!(cell, [255, 0, 0, 31, 0, 0, 0, 0]);
+/// assert_eq!(change, Change { index: 0, draws: 0, lost: 1 });
+/// # Ok::<(), microscope::Refusal>(())
+/// ```
 #[repr(C)]
 #[derive(Clone, Copy, Debug, Default, PartialEq, Eq)]
 pub struct Change {
@@ -104,8 +121,9 @@ pub struct Change {
     pub index: u64,
     /// Random draws that the call made.
     pub draws: u64,
-    /// 0: kept for what a later version tells.
-    pub room: u64,
+    /// Units that the call lost, of all cells together; 0 if refused. Of a merge they are what it cut off above 255, of all
+    /// pixels. One is c^max_zoom items, since a cell loses at its ceiling only. A division loses none.
+    pub lost: u64,
 }
 
 /// One reading of a key, in items; all 0 if refused.
@@ -277,7 +295,7 @@ macro_rules! layout {
 const _: () = assert!(size_of::<usize>() == 8);
 layout!(Sketch, 72, rows at 0, cols at 8, t at 16, c at 24, kind at 32, length at 40, epoch at 48, reading at 56, state at 64);
 layout!(Watch, 24, count at 0, rows at 8, reached at 16);
-layout!(Change, 24, index at 0, draws at 8, room at 16);
+layout!(Change, 24, index at 0, draws at 8, lost at 16);
 layout!(Figures, 32, over at 0, under at 8, linear at 16, fraction at 24);
 layout!(Items, 24, index at 0, over at 8, under at 16);
 layout!(Value, 16, index at 0, value at 8);

@@ -60,6 +60,54 @@ pub struct Reading {
     pub under_items: u64,
 }
 
+/// What an accepted call did beside counting.
+///
+/// A unit is lost where a pixel of 255 is to have more and its cell is at the ceiling of its base, so that it cannot zoom out
+/// ([`calls::base_max_zoom`]). Each lost unit is c^max_zoom items that a cell should count and does not, and a figure that rests
+/// on that cell can read low by as many, until their sub-window has left the window. Which keys that are is not told: who shows
+/// figures adds up `lost`, and once it is not 0 says beside them that they may read low. Items and time lose nothing where no
+/// cell is at the ceiling as the call begins, and a merge nothing where it leaves none there ([`MicroCm::max_zoom`] tells the
+/// highest zoom of all cells).
+///
+/// ```
+/// use microscope::{Done, MicroCm, MicroParams, SubWindowClock};
+///
+/// let clock = SubWindowClock::count_based(1000);
+/// let mut counter = MicroCm::with_dimensions(1, 2, MicroParams { t: 1, c: 2 }, clock, 1)?;
+/// let mut lost = 0;
+/// for _ in 0..255 {
+///     lost += counter.update(&[0])?.lost;
+/// }
+/// // The pixel is full. Each doubling raises the zoom by 1, up to 31, the ceiling of base 2.
+/// for _ in 0..31 {
+///     lost += counter.merge(&counter.clone())?.lost;
+/// }
+/// assert_eq!(lost, 0);
+///
+/// let before = counter.estimate(&[0])?.over_items;
+/// let done = counter.merge(&counter.clone())?;
+/// assert_eq!(done, Done { draws: 0, lost: 255 });
+/// let after = counter.estimate(&[0])?.over_items;
+/// assert_eq!(after + done.lost * (1 << 31), before + before); // one unit is 2^31 items
+/// # Ok::<(), microscope::Refusal>(())
+/// ```
+#[derive(Clone, Copy, Debug, Default, PartialEq, Eq)]
+pub struct Done {
+    /// Random draws made.
+    pub draws: u64,
+    /// Units lost, of all cells together; those of a merge are what it cut off above 255, of all pixels.
+    pub lost: u64,
+}
+
+impl Done {
+    fn of(change: Change) -> Self {
+        Self {
+            draws: change.draws,
+            lost: change.lost,
+        }
+    }
+}
+
 /// A sliding-window frequency sketch. A key is its columns, one a row, each below `cols`; how a key becomes columns (a
 /// hash) is the caller's.
 ///
@@ -123,25 +171,27 @@ impl MicroCm {
         Ok(fresh)
     }
 
-    /// One item, on a clock of items. Gives the random draws made.
-    pub fn update(&mut self, key: &[u32]) -> Result<u64, Error> {
+    /// One item, on a clock of items. Gives the random draws made, and the units lost: by the key's cells and, if the item was
+    /// the last of its sub-window, by every cell whose shutter it closes.
+    pub fn update(&mut self, key: &[u32]) -> Result<Done, Error> {
         let mut change = Change::default();
         calls::update(&mut self.sketch, key, &mut self.grid, &mut change)?;
-        Ok(change.draws)
+        Ok(Done::of(change))
     }
 
-    /// One item at this time, on a clock of time; an older time stamp counts as the latest. Gives the draws made.
-    pub fn update_at(&mut self, key: &[u32], timestamp: u64) -> Result<u64, Error> {
+    /// One item at this time, on a clock of time; an older time stamp counts as the latest. Gives the draws made and the units
+    /// lost.
+    pub fn update_at(&mut self, key: &[u32], timestamp: u64) -> Result<Done, Error> {
         let mut change = Change::default();
         calls::update_at(&mut self.sketch, key, timestamp, &mut self.grid, &mut change)?;
-        Ok(change.draws)
+        Ok(Done::of(change))
     }
 
-    /// Time passes without an item: before reading a key that has gone quiet. Gives the draws made.
-    pub fn advance_to(&mut self, timestamp: u64) -> Result<u64, Error> {
+    /// Time passes without an item: before reading a key that has gone quiet. Gives the draws made and the units lost.
+    pub fn advance_to(&mut self, timestamp: u64) -> Result<Done, Error> {
         let mut change = Change::default();
         calls::advance_to(&mut self.sketch, timestamp, &mut self.grid, &mut change)?;
-        Ok(change.draws)
+        Ok(Done::of(change))
     }
 
     /// The figures of a key; `linear` is what the published `estimate` gives.
@@ -197,9 +247,9 @@ impl MicroCm {
         self.codes.ask(&self.sketch, &self.grid, list)
     }
 
-    /// Adds the counts of another sketch of the same settings that has reached the same sub-window. Gives the draws. The
-    /// codes stay this sketch's.
-    pub fn merge(&mut self, other: &Self) -> Result<u64, Error> {
+    /// Adds the counts of another sketch of the same settings that has reached the same sub-window. Gives the draws, and the
+    /// units cut off above 255. The codes stay this sketch's.
+    pub fn merge(&mut self, other: &Self) -> Result<Done, Error> {
         let mut change = Change::default();
         calls::merge(
             &mut self.sketch,
@@ -208,7 +258,7 @@ impl MicroCm {
             &other.grid,
             &mut change,
         )?;
-        Ok(change.draws)
+        Ok(Done::of(change))
     }
 
     /// The highest zoom that any cell has now.

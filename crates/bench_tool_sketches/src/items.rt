@@ -23,8 +23,9 @@ enum Work {
 // A run of the same call: how it stands after the last one made.
 struct Run {
     answer: SketchAnswer,
-    // The draws of all calls made.
+    // The draws of all calls made, and the units that they lost.
     draws: u64,
+    lost: u64,
     made: u64,
     more: bool,
 }
@@ -46,6 +47,7 @@ fn again(work: Work, key: &[u32], grid: &mut [u8], run: Run) -> Run {
         return Run {
             answer,
             draws: run.draws,
+            lost: run.lost,
             made: run.made,
             more: false,
         };
@@ -53,6 +55,7 @@ fn again(work: Work, key: &[u32], grid: &mut [u8], run: Run) -> Run {
     Run {
         answer,
         draws: std::num::wrapping_add_u64(run.draws, answer.draws),
+        lost: std::num::wrapping_add_u64(run.lost, answer.lost),
         made: std::num::wrapping_add_u64(run.made, 1),
         more: true,
     }
@@ -63,10 +66,12 @@ fn at_start(sketch: MicroCm) -> Run {
         verdict: Verdict::Accepted,
         sketch,
         draws: 0,
+        lost: 0,
     };
     Run {
         answer,
         draws: 0,
+        lost: 0,
         made: 0,
         more: true,
     }
@@ -97,20 +102,23 @@ fn tell(run: Run, times: u64) {
     let verdict = answer.verdict;
     let sketch = answer.sketch;
     if verdict.accepted() {
-        tell_counted(sketch, run.draws);
+        tell_counted(sketch, run.draws, run.lost);
         return;
     }
     verdicts::begin(verdict);
     if times > 1 {
         print::number(b"; calls made before it: ", run.made);
+        if run.lost > 0 {
+            print::number(b", units that they lost: ", run.lost);
+        }
     }
     print::text(b"\n");
 }
 
-pub fn tell_counted(sketch: MicroCm, draws: u64) {
+pub fn tell_counted(sketch: MicroCm, draws: u64, lost: u64) {
     let clock = sketch.clock;
     let now = clock_calls::n(clock);
-    print::counted(now.n, draws);
+    print::counted(now.n, draws, lost);
 }
 
 fn worked(

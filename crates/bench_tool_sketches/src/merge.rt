@@ -64,6 +64,6 @@ fn merged(answer: SketchAnswer, place: usize, shelf: Shelf) -> Shelf {
         verdicts::refused(verdict);
         return shelf;
     }
-    items::tell_counted(sketch, answer.draws);
+    items::tell_counted(sketch, answer.draws, answer.lost);
     shelf.with_sketch(place, sketch)
 }

@@ -138,6 +138,16 @@ fn next_crossing(cell: &[u8], params: MicroParams, n: u64, stale: usize, zoom: u
     falls_from_one_more(most, words::get(cell, slot_of(params.t, n)), params.c, zoom);
 }
 
+// A pixel that can take no unit more, as the cell cannot zoom out (document 02, T-04).
+fn tell_full(cell: &[u8], params: MicroParams, n: u64, zoom: u8) {
+    let highest = cell_reading::max_zoom(params.c);
+    if words::get(cell, slot_of(params.t, n)) < 255 || zoom < highest.zoom {
+        return;
+    }
+    print::number(b"  full at max_zoom: the next unit for n=", n);
+    print::text(b" is lost\n");
+}
+
 fn draw(cell: &[u8], params: MicroParams, n: u64) {
     let zoom = cell_reading::zoom(cell, params);
     let shutter = cell_reading::shutter(cell, params);
@@ -152,6 +162,7 @@ fn draw(cell: &[u8], params: MicroParams, n: u64) {
     print::number(b"  shutter: ", shutter.shutter as u64);
     print::number(b" of ", unit);
     print::text(b" items towards the next step of the newest pixel\n");
+    tell_full(cell, params, n, zoom.zoom);
     // The slot behind the newest one's.
     let newest = slot_of(params.t, n) as u64;
     let stale = slot_of(params.t, std::num::wrapping_add_u64(newest, 1));

@@ -47,12 +47,14 @@ pub fn columns(key: &[u32]) {
 }
 
 // The answer of a call that counts, by one call of the system: long traces have little else.
-pub fn counted(n: u64, draws: u64) {
-    let mut line = [0u8; 64];
+pub fn counted(n: u64, draws: u64, lost: u64) {
+    let mut line = [0u8; 96];
     let a = words::put(&mut line, 0, b"ok n=");
     let b = numbers::put(&mut line, a, n);
     let c = words::put(&mut line, b, b" draws=");
     let d = numbers::put(&mut line, c, draws);
-    let e = words::put(&mut line, d, b"\n");
-    text(words::part(&line, 0, e));
+    let e = words::put(&mut line, d, b" lost=");
+    let f = numbers::put(&mut line, e, lost);
+    let g = words::put(&mut line, f, b"\n");
+    text(words::part(&line, 0, g));
 }

@@ -56,10 +56,12 @@ fn divide_pixels(pixels: &mut [u8], c: u32, slot: usize, state: u64) -> Drawn
         draws = draws + divided.draws;
         i += 1;
     }
+    // A raise rounds, and loses nothing.
+    let lost: u32 = 0;
     Drawn {
         state: after,
         draws,
-        lost: 0,
+        lost,
     }
 }
 

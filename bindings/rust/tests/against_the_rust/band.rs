@@ -6,7 +6,7 @@ use crate::judge::{self, Settings};
 use crate::pair::make;
 use crate::score::{Outcome, called, number, same, same_number};
 use crate::tally::Tally;
-use microscope::{MicroCm, MicroParams, calls};
+use microscope::{Done, MicroCm, MicroParams, calls};
 
 pub const ALL: [(&str, fn() -> Outcome); 2] = [
     ("an item's zoom that no call shows", unseen_by_item),
@@ -88,8 +88,10 @@ impl Watched {
         }
     }
 
-    fn accepted(&mut self, answer: Result<u64, microscope::Error>) -> Outcome {
-        answer.map_err(|why| why.to_string())?;
+    /// No cell comes near its ceiling by so few items, so no unit is lost.
+    fn accepted(&mut self, answer: Result<Done, microscope::Error>) -> Outcome {
+        let done = answer.map_err(|why| why.to_string())?;
+        same("units lost", done.lost, 0)?;
         self.raise_peaks();
         Ok(())
     }

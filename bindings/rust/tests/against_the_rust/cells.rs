@@ -7,17 +7,18 @@ use crate::judge;
 use crate::junk;
 use crate::layout;
 use crate::levels::Crossing;
+use crate::lost::{self, Units};
 use crate::numbers::{self, Causes};
 use crate::plain_calls::{Answer, told as answered};
 use crate::score::{Outcome, called, same, same_bytes, unchanged};
 use microscope::calls::{self, Change};
 
 /// What a call on one cell is told.
-struct Told {
-    t: u64,
-    c: u64,
-    cell: Vec<u8>,
-    state: u64,
+pub struct Told {
+    pub t: u64,
+    pub c: u64,
+    pub cell: Vec<u8>,
+    pub state: u64,
 }
 
 fn cell(dice: &mut Dice, t: u16, c: u16) -> Vec<u8> {
@@ -63,13 +64,13 @@ fn spoil(dice: &mut Dice, told: &mut Told) {
     }
 }
 
-/// A cell after a call: as the Rust left it, with its own pads, or if refused as it was, and so the state.
+/// A cell after a call: as the Rust left it, with its own pads, or if refused as it was, and so the state. Gives the units lost.
 fn left(
     told: &Told,
     causes: Causes,
     call: impl FnOnce(&mut [u8], &mut u64, &mut Change) -> Answer,
-    theirs: impl FnOnce(u16, u16) -> judge::After,
-) -> Outcome {
+    theirs: impl FnOnce(u16, u16) -> lost::Left,
+) -> Units {
     let (mut bytes, mut state, mut change) = (told.cell.clone(), told.state, junk::CHANGE);
     let answer = called(call(&mut bytes, &mut state, &mut change));
     let right = numbers::first(&causes);
@@ -77,26 +78,29 @@ fn left(
     if right != 0 {
         same("what a refusal tells", change, Change::default())?;
         same("the state of a refusal", state, told.state)?;
-        return same_bytes("the cell of a refusal", &bytes, &told.cell);
+        same_bytes("the cell of a refusal", &bytes, &told.cell)?;
+        return Ok(0);
     }
     let (t, c) = told.small();
-    let after = theirs(t, c);
+    let (after, lost) = theirs(t, c)?;
     let change_right = Change {
+        index: 0,
         draws: after.draws,
-        ..Change::default()
+        lost,
     };
     same("state and what is told", (state, change), (after.state, change_right))?;
     layout::same_cells("the cell", told.t, &bytes, &after.cell)?;
-    layout::same_pads(told.t, &bytes, &told.cell)
+    layout::same_pads(told.t, &bytes, &told.cell)?;
+    Ok(change.lost)
 }
 
-fn insert(told: &Told, n: u64) -> Outcome {
+pub fn insert(told: &Told, n: u64) -> Units {
     let causes = numbers::change(told.t, told.c, told.state, None, &[&told.cell]);
     left(
         told,
         causes,
         |cell, state, change| calls::cell_insert(cell, told.t, told.c, n, state, change),
-        |t, c| judge::insert(t, c, n, told.state, &told.theirs()),
+        |t, c| lost::insert(t, c, n, told.state, &told.theirs()),
     )
 }
 
@@ -108,17 +112,17 @@ fn crossed(dice: &mut Dice, told: &Told, n: u64) -> u64 {
     }
 }
 
-fn enter(told: &Told, n: u64, crossed: u64) -> Outcome {
+pub fn enter(told: &Told, n: u64, crossed: u64) -> Units {
     let causes = numbers::change(told.t, told.c, told.state, Some((n, crossed)), &[&told.cell]);
     let accepted = numbers::first(&causes) == 0;
-    left(
+    let lost = left(
         told,
         causes,
         |cell, state, change| calls::cell_enter_sub_window(cell, told.t, told.c, n, crossed, state, change),
-        |t, c| judge::enter(t, c, n, crossed, told.state, &told.theirs()),
+        |t, c| lost::enter(t, c, n, crossed, told.state, &told.theirs()),
     )?;
     if !accepted {
-        return Ok(());
+        return Ok(lost);
     }
     let (t, c) = told.small();
     let (state, theirs) = (told.state, told.theirs());
@@ -129,7 +133,8 @@ fn enter(told: &Told, n: u64, crossed: u64) -> Outcome {
         crossed,
         state,
     };
-    crossing.kept(&theirs, &judge::enter(t, c, n, crossed, state, &theirs))
+    crossing.kept(&theirs, &judge::enter(t, c, n, crossed, state, &theirs))?;
+    Ok(lost)
 }
 
 /// Document 02, T-11, worked by hand: three pixels, zoom and shutter; n and how many are crossed; and what is left.
@@ -186,16 +191,17 @@ fn ceilings() -> Outcome {
     Ok(())
 }
 
-fn merge(told: &Told, n: u64, src: Vec<u8>) -> Outcome {
+pub fn merge(told: &Told, n: u64, src: Vec<u8>) -> Units {
     let lent = src.clone();
     let causes = numbers::change(told.t, told.c, told.state, None, &[&told.cell, &src]);
-    left(
+    let lost = left(
         told,
         causes,
         |dst, state, change| calls::cell_merge(dst, &lent, told.t, told.c, n, state, change),
-        |t, c| judge::merge(t, c, n, told.state, &told.theirs(), &layout::to_theirs(told.t, &src)),
+        |t, c| lost::merge(t, c, n, told.state, &told.theirs(), &layout::to_theirs(told.t, &src)),
     )?;
-    unchanged("the cell merged from", &lent, &src)
+    unchanged("the cell merged from", &lent, &src)?;
+    Ok(lost)
 }
 
 fn spoiled_at_times(dice: &mut Dice, told: &Told, mut src: Vec<u8>) -> Vec<u8> {
@@ -252,9 +258,9 @@ pub fn story(dice: &mut Dice) -> Outcome {
             spoil(dice, &mut told);
         }
         let outcome = match dice.below(10) {
-            0..4 => insert(&told, n),
-            4..7 => enter(&told, n, crossed(dice, &told, n)),
-            7 | 8 => merge(&told, n, spoiled_at_times(dice, &told, src)),
+            0..4 => insert(&told, n).map(drop),
+            4..7 => enter(&told, n, crossed(dice, &told, n)).map(drop),
+            7 | 8 => merge(&told, n, spoiled_at_times(dice, &told, src)).map(drop),
             _ => fields(&told, n).and_then(|()| settings(&told)),
         };
         outcome.map_err(|what| format!("{what}; t {}, c {}, n {n}, cell {:?}", told.t, told.c, told.cell))?;

@@ -22,6 +22,11 @@ mod junk;
 mod layout;
 mod levels;
 mod load_order;
+mod losses;
+mod lost;
+mod lost_cases;
+mod lost_stories;
+mod lost_walk;
 mod means;
 mod named;
 mod numbers;
@@ -115,13 +120,14 @@ fn story(dice: &mut Dice) -> Outcome {
     if code_calls::askings() < score::calls() / CALLS_AN_ASKING {
         return code_calls::counted(code_story(dice));
     }
-    match dice.below(27) {
+    match dice.below(29) {
         0..12 => stories::story(dice),
         12..15 => cells::story(dice),
         15..18 => random_calls::story(dice),
         18..20 => damage::story(dice),
         20..22 => draws::story(dice),
         22 => unsound::story(dice),
+        23 | 24 => lost_stories::story(dice),
         _ => band::story(dice),
     }
 }
@@ -136,7 +142,8 @@ fn code_story(dice: &mut Dice) -> Outcome {
 fn compare(run: &Run) -> Score {
     let mut score = Score::default();
     let directed = directed::ALL.into_iter().chain(refusals::ALL).chain(unsound::ALL);
-    let directed = directed.chain(cells::ALL).chain(draws::ALL).chain(band::ALL);
+    let directed = directed.chain(cells::ALL).chain(lost_cases::ALL).chain(lost_stories::ALL);
+    let directed = directed.chain(draws::ALL).chain(band::ALL);
     for (name, story) in directed.chain(pairs::ALL) {
         score.count(name, story());
     }
@@ -151,6 +158,7 @@ fn compare(run: &Run) -> Score {
         ("cells named", named::told()),
         ("means", means::told()),
         ("crossings", levels::told()),
+        ("units lost", losses::told()),
     ];
     for (what, (line, outcome)) in counted {
         println!("{line}");

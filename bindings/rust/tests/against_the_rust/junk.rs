@@ -29,7 +29,7 @@ pub const WATCH: Watch = Watch {
 pub const CHANGE: Change = Change {
     index: WORD,
     draws: WORD,
-    room: WORD,
+    lost: WORD,
 };
 
 pub const FIGURES: Figures = Figures {

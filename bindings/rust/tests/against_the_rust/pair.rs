@@ -3,10 +3,12 @@
 use crate::held;
 use crate::judge::{self, Settings};
 use crate::layout;
+use crate::lost::Units;
+use crate::lost_walk;
 use crate::means;
 use crate::score::{Outcome, called, number, same, same_bytes, same_number, unchanged_one};
 use crate::stores;
-use microscope::{MicroCm, MicroParams, Refusal, SubWindowClock};
+use microscope::{Done, MicroCm, MicroParams, Refusal, SubWindowClock};
 
 /// Grids up to this size are compared after each call; of larger ones every 64th call, and always at the end.
 const SMALL: usize = 8192;
@@ -95,7 +97,7 @@ impl Pair {
         self.told(
             |ours| ours.update(key),
             refusal,
-            |theirs| judge::update(theirs, &narrow(key)),
+            |theirs| lost_walk::update(theirs, &narrow(key)),
         )
     }
 
@@ -108,7 +110,7 @@ impl Pair {
         self.told(
             |ours| ours.update_at(key, time),
             refusal,
-            |theirs| judge::update_at(theirs, &narrow(key), time).expect("a clock of time"),
+            |theirs| lost_walk::update_at(theirs, &narrow(key), time),
         )
     }
 
@@ -117,7 +119,7 @@ impl Pair {
         self.told(
             |ours| ours.advance_to(time),
             refusal,
-            |theirs| judge::advance_to(theirs, time).expect("a clock of time"),
+            |theirs| lost_walk::advance_to(theirs, time),
         )
     }
 
@@ -125,7 +127,7 @@ impl Pair {
         let (watch, others) = (self.ours.watch(), (other.ours.plain(), other.ours.watch()));
         let answer = called(self.ours.merge(&other.ours));
         let before = judge::state(&self.theirs);
-        let right = judge::merge_sketches(&mut self.theirs, &other.theirs);
+        let right = lost_walk::merge_sketches(&mut self.theirs, &other.theirs)?;
         same_number("the merge's number", number(&answer), right.err().unwrap_or(0) as u64)?;
         same("the codes beside a merge", self.ours.watch(), watch)?;
         unchanged_one(
@@ -133,32 +135,30 @@ impl Pair {
             &(other.ours.plain(), other.ours.watch()),
             &others,
         )?;
-        self.drew(answer, before)?;
+        self.did(answer, before, right.unwrap_or(0))?;
         other.equal_grids()
     }
 
     /// The Rust is called only if ours is to accept.
     fn told(
         &mut self,
-        ours: impl FnOnce(&mut MicroCm) -> Result<u64, Refusal>,
+        ours: impl FnOnce(&mut MicroCm) -> Result<Done, Refusal>,
         refusal: u64,
-        theirs: impl FnOnce(&mut judge::Sketch),
+        theirs: impl FnOnce(&mut judge::Sketch) -> Units,
     ) -> Outcome {
         let watch = self.ours.watch();
         let answer = called(ours(&mut self.ours));
         same_number("the number", number(&answer), refusal)?;
         same("the codes beside a call", self.ours.watch(), watch)?;
         let before = judge::state(&self.theirs);
-        if refusal == 0 {
-            theirs(&mut self.theirs);
-        }
-        self.drew(answer, before)
+        let lost = if refusal == 0 { theirs(&mut self.theirs)? } else { 0 };
+        self.did(answer, before, lost)
     }
 
     /// After a refusal all is looked at, also a large grid.
-    fn drew(&mut self, answer: Result<u64, Refusal>, before: u64) -> Outcome {
+    fn did(&mut self, answer: Result<Done, Refusal>, before: u64, lost: u64) -> Outcome {
         let draws = judge::draws_between(before, judge::state(&self.theirs));
-        same("draws", answer.unwrap_or(0), draws)?;
+        same("draws and units lost", answer.unwrap_or_default(), Done { draws, lost })?;
         match answer {
             Ok(_) => self.agree(),
             Err(_) => self.agree_wholly(),

@@ -7,6 +7,8 @@ use crate::hits;
 use crate::judge;
 use crate::junk;
 use crate::layout;
+use crate::lost::Units;
+use crate::lost_walk;
 use crate::named::{self, names};
 use crate::numbers;
 use crate::pair::narrow;
@@ -45,7 +47,7 @@ fn changed(
     right: u64,
     cell: impl FnOnce() -> Option<usize>,
     call: impl FnOnce(&mut Sketch, &mut [u8], &mut Change) -> Answer,
-    theirs: impl FnOnce(&mut judge::Sketch),
+    theirs: impl FnOnce(&mut judge::Sketch) -> Units,
 ) -> Told {
     let mut left = before.clone();
     let mut change = junk::CHANGE;
@@ -54,8 +56,8 @@ fn changed(
     if right != 0 {
         names(right, change.index, cell)?;
         same(
-            "the draws of a refusal, and the room",
-            (change.draws, change.room),
+            "the draws and the units lost of a refusal",
+            (change.draws, change.lost),
             (0, 0),
         )?;
         same("the sketch of a refusal", left.sketch, before.sketch)?;
@@ -63,7 +65,7 @@ fn changed(
         return Ok(told);
     }
     let mut right = published(before);
-    theirs(&mut right);
+    let lost = theirs(&mut right)?;
     let (reading, state) = (judge::clock(&right).reading, judge::state(&right));
     let sketch = Sketch {
         reading,
@@ -72,8 +74,9 @@ fn changed(
     };
     same("sketch", left.sketch, sketch)?;
     let change_told = Change {
+        index: 0,
         draws: judge::draws_between(before.sketch.state, state),
-        ..Change::default()
+        lost,
     };
     same("what is told", change, change_told)?;
     let t = before.sketch.t;
@@ -90,7 +93,7 @@ pub fn update(before: &Held, key: &[u32]) -> Told {
         right,
         || named::moving(before, key, 0, before.sketch.reading.saturating_add(1)),
         |sketch, grid, change| calls::update(sketch, &lent, grid, change),
-        |theirs| judge::update(theirs, &narrow(key)),
+        |theirs| lost_walk::update(theirs, &narrow(key)),
     )?;
     unchanged("the key lent", &lent, key)?;
     Ok(told)
@@ -104,7 +107,7 @@ pub fn update_at(before: &Held, key: &[u32], time: u64) -> Told {
         hits::number("update_at", &causes),
         || named::moving(before, key, 1, before.sketch.reading.max(time)),
         |sketch, grid, change| calls::update_at(sketch, &lent, time, grid, change),
-        |theirs| judge::update_at(theirs, &narrow(key), time).expect("a clock of time"),
+        |theirs| lost_walk::update_at(theirs, &narrow(key), time),
     )?;
     unchanged("the key lent", &lent, key)?;
     Ok(told)
@@ -117,7 +120,7 @@ pub fn advance_to(before: &Held, time: u64) -> Told {
         right,
         || named::moving(before, &[], 1, before.sketch.reading.max(time)),
         |sketch, grid, change| calls::advance_to(sketch, time, grid, change),
-        |theirs| judge::advance_to(theirs, time).expect("a clock of time"),
+        |theirs| lost_walk::advance_to(theirs, time),
     )
 }
 
@@ -129,7 +132,7 @@ pub fn merge(mine: &Held, other: &Held) -> Told {
         hits::number("merge", &causes),
         || named::in_merge(mine, other),
         |sketch, grid, change| calls::merge(sketch, grid, &lent.sketch, &lent.grid, change),
-        |theirs| judge::merge_sketches(theirs, &published(other)).expect("they meet"),
+        |theirs| lost_walk::merge_sketches(theirs, &published(other)).map(|lost| lost.expect("they meet")),
     )?;
     as_lent(&lent, other)?;
     Ok(told)
