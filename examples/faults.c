@@ -93,8 +93,10 @@ static void raise_peaks(const struct counter *counter, uint64_t peaks[CODE_COUNT
     }
 }
 
-static void count(struct counter *counter, uint64_t peaks[CODE_COUNT]) {
+/* Gives the units that were lost on the way: once that is not 0, figures may be too low. */
+static uint64_t count(struct counter *counter, uint64_t peaks[CODE_COUNT]) {
     microscope_change change;
+    uint64_t lost = 0;
     for (int event = 0; event < EVENT_COUNT; event++) {
         uint32_t key[ROWS];
         columns_of(CODES[TRACE[event].code], key);
@@ -102,11 +104,13 @@ static void count(struct counter *counter, uint64_t peaks[CODE_COUNT]) {
             accepted(microscope_update_at(&counter->sketch, key, ROWS, TRACE[event].second, counter->grid, GRID_BYTES,
                                           &change),
                      "update_at");
+            lost += change.lost;
             raise_peaks(counter, peaks);
         }
     }
     accepted(microscope_advance_to(&counter->sketch, READING_AT, counter->grid, GRID_BYTES, &change), "advance_to");
     raise_peaks(counter, peaks);
+    return lost + change.lost;
 }
 
 /*
@@ -180,8 +184,8 @@ int main(int argc, char **argv) {
     accepted(microscope_new(&counter.sketch, &counter.watch, ROWS, COLS, T, C, MICROSCOPE_TIME, MINUTE, EPOCH, SEED,
                             counter.grid, GRID_BYTES),
              "new");
-    count(&counter, peaks);
-    printf("minute %" PRIu64 "\n", sub_window(&counter.sketch));
+    uint64_t lost = count(&counter, peaks);
+    printf("minute %" PRIu64 "  units lost %" PRIu64 "\n", sub_window(&counter.sketch), lost);
     print_figures(&counter, peaks);
 
     write_store(argv[1], &counter);

@@ -64,17 +64,19 @@ fn raise_peaks(counter: &MicroCm, peaks: &mut Peaks) -> Result<(), Box<dyn Error
     Ok(())
 }
 
-fn count(counter: &mut MicroCm) -> Result<Peaks, Box<dyn Error>> {
+/// Gives the M of every code, and the units that were lost on the way: once that is not 0, figures may be too low.
+fn count(counter: &mut MicroCm) -> Result<(Peaks, u64), Box<dyn Error>> {
     let mut peaks = [0; CODES.len()];
+    let mut lost = 0;
     for (second, code, times) in TRACE {
         for _ in 0..times {
-            counter.update_at(&columns_of(CODES[code]), second)?;
+            lost += counter.update_at(&columns_of(CODES[code]), second)?.lost;
             raise_peaks(counter, &mut peaks)?;
         }
     }
-    counter.advance_to(READING_AT)?;
+    lost += counter.advance_to(READING_AT)?.lost;
     raise_peaks(counter, &mut peaks)?;
-    Ok(peaks)
+    Ok((peaks, lost))
 }
 
 /// How far Over may be from the exact count: (2k - 1) x (c^M - 1), k being the sub-windows it adds up. It holds from a
@@ -106,8 +108,8 @@ fn main() -> Result<(), Box<dyn Error>> {
     let params = MicroParams { t: T, c: C };
     let clock = SubWindowClock::time_based(MINUTE, EPOCH);
     let mut counter = MicroCm::with_dimensions(ROWS, COLS, params, clock, SEED)?;
-    let peaks = count(&mut counter)?;
-    println!("minute {}", counter.sub_window());
+    let (peaks, lost) = count(&mut counter)?;
+    println!("minute {}  units lost {lost}", counter.sub_window());
     print_figures(&counter, &peaks)?;
 
     let saved = counter.save()?;

@@ -14,6 +14,7 @@ pub mod TotalLaws
 pub mod HeldLaws
 pub mod AtMostLaws
 pub mod SumsLaws
+pub mod SettleLaws
 pub mod CrossingLaws
 pub mod LengthLaws
 pub mod PixelLaws

@@ -20,7 +20,8 @@ use Rattle.cell.proofs.CellLaws.{Kept, kept-same, kept-then, slot-insid
 use Rattle.cell.proofs.CellLaws.{with-shutter-shutter, with-shutter-pixels, with-shutter-zoom, with-shutter-kept}
 use Rattle.cell.proofs.PowerLaws.{max-zoom-limit, zoom-fits}
 use Rattle.cell.proofs.SoundLaws.{sound-zoom, sound-shutter, sound-is}
-use Rattle.cell.proofs.SumsLaws.{after-then, add-draws, add-state, add-length, add-sums, flat-sum, most-at, cut-lost, Settles, settles, CutFrom, settle-cut, settle-flat}
+use Rattle.cell.proofs.SumsLaws.{after-then, add-draws, add-state, add-length, add-sums, flat-sum, most-at}
+use Rattle.cell.proofs.SettleLaws.{cut-lost, Settles, settles, CutFrom, settle-cut, settle-flat}
 use Rattle.cell.proofs.TotalLaws.{sum-more}
 
 -- THE TARGET

@@ -45,9 +45,9 @@ uncutSums t c n b src σ =
     let s = addEach c (target - zoomOf t b) (target - zoomOf t src) (pixelsIn t b) (pixelsIn t src) σ in
     raisedFrom c (maxZoom c - target) (withCarry (slotOf t n) ((shutterOf t b + shutterOf t src) / c ^ target) (s .bytes)) (s .state)
 
--- A STEP from these items that ends at a zoom Z: what is there afterwards and the units lost, of c ^ Z items each, are what was there before
-abbrev pub Balances : (t c : ℕ) (after : List ℕ) (lost before : ℕ) → Type 0
-Balances t c after lost before = totalOf t c after + c ^ zoomOf t after * lost ≡ before
+-- THE BALANCE: the total afterwards, and c ^ Z items for each unit that is lost, make so many items; Z is the zoom afterwards
+abbrev pub Balances : (t c : ℕ) (after : List ℕ) (lost items : ℕ) → Type 0
+Balances t c after lost items = totalOf t c after + c ^ zoomOf t after * lost ≡ items
 
 -- TWO CELLS MERGED
 pub record MergeLoses (t c n : ℕ) (b src : List ℕ) (σ : ℕ) : Type 0 where
@@ -81,7 +81,7 @@ pub record LostMeaning : Type 0 where
   pub call : (p : MicroParams) (n : ℕ) (b : List ℕ) (σ : ℕ) → insertCall p n b σ .answer .verdict ≡ Accepted
       → zoomOf (p .t) (insertCall p n b σ .bytes) ≡ zoomOf (p .t) b
       → Balances (p .t) (p .c) (insertCall p n b σ .bytes) (insertCall p n b σ .answer .lost) (totalOf (p .t) (p .c) b + 1)
-  pub only : (t c : ℕ) (after : List ℕ) (lost other before : ℕ) → 2 ≤ c → Balances t c after lost before → Balances t c after other before → lost ≡ other
+  pub only : (t c : ℕ) (after : List ℕ) (lost other items : ℕ) → 2 ≤ c → Balances t c after lost items → Balances t c after other items → lost ≡ other
   -- two sound cells merged
   pub merge : (t c n : ℕ) (b src : List ℕ) (σ : ℕ) → Fit t c (length b) → Fit t c (length src) → soundOf t c b ≡ true → soundOf t c src ≡ true
       → MergeLoses t c n b src σ

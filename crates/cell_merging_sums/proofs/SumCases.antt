@@ -18,7 +18,8 @@ use Rattle.cell.specs.Workers.{stepOf}
 use Rattle.cell_merging_sums.specs.Workers.{addedOf, flatSums, settledOf}
 use Rattle.cell.proofs.DivideLaws.{divide-draws}
 use Rattle.cell.proofs.PowerLaws.{max-zoom-limit}
-use Rattle.cell.proofs.SumsLaws.{most-at, most-up, most-set, cut-low, divide-most, settle-fit, settle-raise, settle-few}
+use Rattle.cell.proofs.SumsLaws.{most-at, most-up, most-set}
+use Rattle.cell.proofs.SettleLaws.{cut-low, divide-most, settle-fit, settle-raise, settle-few}
 use Rattle.cell_merging_sums.proofs.SumLoops.{flat-is}
 
 -- SETTLE: the zoom is z by now, and the sums are l

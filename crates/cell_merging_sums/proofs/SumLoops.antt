@@ -18,7 +18,8 @@ use Rattle.cell.specs.Crossing.{allAtMost}
 use Rattle.cell.specs.Merge.{delayed, scaleDown, addPair, addEach, cutEach, cutOff}
 use Rattle.cell_merging_sums.specs.Workers.{flatSums}
 use Rattle.cell.proofs.DivideLaws.{divide-draws}
-use Rattle.cell.proofs.SumsLaws.{scale-draws, scale-value, add-few, most-one-more, cut-few}
+use Rattle.cell.proofs.SumsLaws.{scale-draws, scale-value, add-few, most-one-more}
+use Rattle.cell.proofs.SettleLaws.{cut-few}
 
 -- a step behind the numbers l, n draws after them
 abbrev behind : List ℕ → ℕ → Step → Step

@@ -4,7 +4,6 @@ use mathlib.Core.Path.{_≡_, refl, ap, _∙_}
 use mathlib.Core.Bool.{true, false, not}
 use mathlib.Core.List.{List}
 use lib.ListN.{length}
-use borrow.Author.Tests.{not-false}
 use native.Mathlib.Nat.{zero-add}
 use Rattle.laws.specs.Steps.{Step}
 use Rattle.laws.specs.Passes.{eachOf}
@@ -15,7 +14,7 @@ use Rattle.laws.proofs.PieceLaws as pieces
 use Rattle.refusal.specs.declared.Verdict.{Verdict}
 use Rattle.refusal.specs.declared.Verdict.the-variants.{Accepted, Refused, Unsound}
 use Rattle.refusal.specs.Refusals.{isAccepted}
-use Rattle.refusal.proofs.VerdictLaws.{refused-leaves, not-refused}
+use Rattle.refusal.proofs.VerdictLaws.{refused-leaves}
 use Rattle.refusal.proofs.GateLaws.{gate-passed}
 use Rattle.cell.specs.Cell.{depthOf}
 use Rattle.cell.specs.Workers.{Fit}
@@ -25,7 +24,7 @@ use Rattle.clock.specs.Clock.{nOf, tickOf, advanceOf}
 use Rattle.sketch.specs.declared.MicroCm.{MicroCm}
 use Rattle.sketch.specs.Sketch.{cellsOf, cellOf, World, recorded, moved, advanced}
 use Rattle.sketch.specs.Merge.{mergeCell, mergeEach}
-use Rattle.sketch.specs.Refusals.{keyFits, refuseKey, refuseSketch, world, sketchCall, freshVerdict, freshCall, updateVerdict, updateCall}
+use Rattle.sketch.specs.Refusals.{keyFits, refuseSketch, world, sketchCall, freshVerdict, freshCall, updateVerdict, updateCall}
 use Rattle.sketch.specs.Refusals.{updateAtVerdict, updateAtCall, advanceVerdict, advanceCall, mergeVerdict, mergeCall}
 use Rattle.sketch.specs.Lost.{itemLoss, moveLoss, mergeStateAt, mergeLoss, NoneAtTop, Loses, GridLostMeaning}
 use Rattle.sketch.proofs.JudgedLaws.{judged-all}
@@ -34,6 +33,7 @@ use Rattle.sketch.proofs.ReadyLaws.{ready-of}
 use Rattle.sketch.proofs.GridLaws.{cell-length}
 use Rattle.sketch.proofs.MergeAccepted.{accepted-ready, accepted-judged, accepted-other}
 use Rattle.sketch.proofs.ItemLoss.{each-lost}
+use Rattle.sketch.proofs.ZoomInLaws.{key-accepted}
 use Rattle.sketch.proofs.WorldLoss.{Set, set-of, some, inside, cell-fit, moved-lost, empty-moves, moved-empty, moved-set, below-empty, recorded-lost, empty-records, recorded-empty, recorded-set}
 
 -- THE CALLS that count, where a sketch with its grid, and then perhaps a key, were accepted
@@ -43,9 +43,6 @@ module _ (k : MicroCm) (g : List ℕ) (rest : Verdict) (e : refuseSketch k g res
 
   found : Set (world k g)
   found = set-of k g (ready-of k g (judged .0))
-
-key-accepted : (k : MicroCm) (key : List ℕ) (rest : Verdict) → refuseKey k key rest ≡ Accepted → keyFits k key ≡ true
-key-accepted k key rest e = not-false _ (not-refused 7 (not (keyFits k key)) rest e .0)
 
 module _ (k : MicroCm) (key g : List ℕ) (e : updateCall k key g .answer .verdict ≡ Accepted) where
   update-set : Set (world k g)

@@ -84,7 +84,7 @@ module _ (k : MicroCm) (g : List ℕ) (low : (i : ℕ) → getD g i 0 ≤ 255) (
     item-crosses clock = moved-crosses item clock fits item-room item-small
 
 -- a key that was accepted
-key-accepted : (k : MicroCm) (key : List ℕ) (rest : Verdict) → refuseKey k key rest ≡ Accepted → keyFits k key ≡ true
+pub key-accepted : (k : MicroCm) (key : List ℕ) (rest : Verdict) → refuseKey k key rest ≡ Accepted → keyFits k key ≡ true
 key-accepted k key rest e = not-false _ (not-refused 7 (not (keyFits k key)) rest e .0)
 
 advance-crosses : (k : MicroCm) (reading : ℕ) (g : List ℕ) → ((i : ℕ) → getD g i 0 ≤ 255) → advanceCall k reading g .answer .verdict ≡ Accepted

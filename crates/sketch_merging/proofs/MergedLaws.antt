@@ -16,7 +16,7 @@ use Rattle.cell.specs.Insertion.{divideEach}
 use Rattle.cell.specs.Crossing.{allAtMost}
 use Rattle.cell.specs.Merge.{Settled, settledLater, settleFrom}
 use Rattle.cell.specs.Workers.{Fit}
-use Rattle.cell.proofs.SumsLaws.{settles}
+use Rattle.cell.proofs.SettleLaws.{settles}
 use Rattle.cell.proofs.MergeLaws.{Merged, merged-leaves}
 use Rattle.sketch.specs.declared.MicroCm.{MicroCm}
 use Rattle.sketch.specs.Sketch.{cellsOf, cellOf}
