@@ -19,7 +19,7 @@ use Rattle.sketch.proofs.JudgedLaws.{sound-cells}
 use Rattle.sketch.proofs.ReadyLaws.{ready-of}
 use Rattle.sketch.proofs.SketchGates.{unsound-gate}
 
-lower-both : (first second : Verdict) → lowerOf first second ≡ Accepted → (first ≡ Accepted) × (second ≡ Accepted)
+pub lower-both : (first second : Verdict) → lowerOf first second ≡ Accepted → (first ≡ Accepted) × (second ≡ Accepted)
 lower-both Accepted second e = (refl, e)
 lower-both (Refused k) Accepted e = (e, refl)
 lower-both (Refused k) (Refused j) e = by (leb k j) e

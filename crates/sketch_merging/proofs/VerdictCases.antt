@@ -19,6 +19,7 @@ use Rattle.sketch.specs.Refusals.{refuseUnsound, sketchVerdict, lowerOf, sameSh
 use Rattle.sketch.specs.Workers.{Ready}
 use Rattle.sketch.proofs.SketchGates.{unsound-gate}
 use Rattle.sketch.proofs.ReadyLaws.{ready-of}
+use Rattle.sketch.proofs.MergeAccepted.{lower-both}
 
 -- THE LOWER NUMBER OF TWO
 module _ (first second : Verdict) (ok : Bool) (asked : ok ≡ isAccepted first) where
