@@ -66,7 +66,7 @@ fn divide_pixels(pixels: &mut [u8], c: u32, slot: usize, state: u64) -> Drawn
 }
 
 // A unit for a pixel that has no room for it: the cell zooms out, and at max_zoom the unit is dropped, the one place where an
-// item is lost. Called from two places, it is kept out of the way of the many items that only add 1.
+// item or a crossing loses one. Called from two places, it is kept out of the way of the many items that only add 1.
 fn zoom_out(cell: &mut [u8], t: usize, c: u32, slot: usize, state: u64) -> Drawn
     requires { ⌜ Fit t c (length (now cell)) × (slot < pixelsOf t) × (255 ≤ pixelOf (now cell) slot) ⌝ }
     ensures { λ r. ⌜ stepOf (now (cell .exit)) r ≡ creditOf t c slot (now (cell .entry)) state ⌝ }
