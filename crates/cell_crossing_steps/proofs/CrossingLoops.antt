@@ -74,6 +74,20 @@ clear-more : (t k first : ℕ) (b : List ℕ) → clearOf t (suc k) first b ≡ 
 unfolding clearOf
 clear-more t k first b = refl
 
+-- a crossing by one clears the pixel behind that of the sub-window that ends
+module _ (t ended slot : ℕ) (e : slot ≡ slotOf t ended) where
+  pub slot-low : slot < pixelsOf t
+  slot-low =
+      let positive : 0 < pixelsOf t = omega arith in
+      rw e (mod-lt ended positive)
+
+  pub clear-one : (b : List ℕ) (count begun : ℕ) → begun ≡ (slot + 1) % pixelsOf t → count ≡ 1 → set b begun 0 ≡ clearOf t count (ended + 1) b
+  unfolding clearOf
+  clear-one b count begun en one = rw (one, next-slot-is t ended slot begun e en) refl
+
+pub slot-in : (t slot : ℕ) (b : List ℕ) → slot < pixelsOf t → pixelsOf t ≤ length b → slot < length b
+slot-in t slot b low room = omega arith
+
 module _ (t : ℕ) (b₀ : List ℕ) (ended count : ℕ) where
   pub clearing-begin : (slot : ℕ) → slot ≡ slotOf t ended → Clearing t b₀ ended count b₀ slot count
   clearing-begin slot e =

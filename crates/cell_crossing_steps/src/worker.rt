@@ -206,6 +206,12 @@ fn clear(cell: &mut [u8], t: usize, slot: usize, ended: u64, count: u64)
     requires { ⌜ (t ≤ 4096) × (pixelsOf t ≤ length (now cell)) × (slot ≡ slotOf t ended) ⌝ }
     ensures { λ _. ⌜ now (cell .exit) ≡ clearOf t count (ended + 1) (now (cell .entry)) ⌝ }
 {
+    // Nearly every crossing is by one sub-window: it is spared the loop.
+    if count == 1 {
+        let begun = next_slot(t, slot);
+        cell[begun] = 0;
+        return;
+    }
     let mut at = slot;
     let mut left = count;
     while left > 0 {

@@ -50,7 +50,7 @@ module _ (t c count n crossed : ℕ) (g₀ : List ℕ) (σ₀ : ℕ) (g : List �
     pub pass-room : (x : ℕ) → x ≤ t + 3 → drawn + x < 2 ^ 64
     pass-room x h = omega (arith, w .few, ok .few, ok .fit .t-high)
 
-    pub loss-room : (x : ℕ) → x ≤ 1 → lost + x < 2 ^ 64
+    pub loss-room : (x : ℕ) → x ≤ 1 → lost + x < 2 ^ 32
     loss-room x h = omega (arith, w .light, ok .few)
 
     pub index-on : i + 1 < 2 ^ 64

@@ -88,7 +88,9 @@ pub fn cross_cells(
     let slot = cell_layout::fields::slot(t, n - crossed);
     let mut after = state;
     let mut draws: u64 = 0;
-    let mut lost: u64 = 0;
+    // Of 32 bits, as a cell's is. With two sums of 64 the compiler reads a cell's draws and loss as one word, and the processor
+    // waits for both writes.
+    let mut lost: u32 = 0;
     let mut start: usize = 0;
     let mut index: usize = 0;
     while index < count {
@@ -104,9 +106,9 @@ pub fn cross_cells(
         );
         after = drawn.state;
         draws = draws + drawn.draws as u64;
-        lost = lost + drawn.lost as u64;
+        lost = lost + drawn.lost;
         start = end;
         index += 1;
     }
-    passed(after, draws, lost)
+    passed(after, draws, lost as u64)
 }

@@ -47,9 +47,6 @@ cast-draws c = search needs
 add-draws : tie.Need-add-draws Inv-loop μ-loop
 add-draws c = record { fits = search (pass-room, needs) }
 
-cast-lost : tie.Need-cast-lost Inv-loop μ-loop
-cast-lost c = search needs
-
 add-lost : tie.Need-add-lost Inv-loop μ-loop
 add-lost c = record { fits = search (loss-room, piece-light, needs) }
 
@@ -61,6 +58,9 @@ loop-less c = search needs
 
 loop-again : tie.Need-loop-again Inv-loop μ-loop
 loop-again c = search (going-on, few-each, piece-light, needs)
+
+cast-passed : tie.Need-cast-passed Inv-loop μ-loop
+cast-passed c = search needs
 
 passed-requires : tie.Need-passed-requires Inv-loop μ-loop
 passed-requires c κs = search needs
@@ -88,11 +88,11 @@ cross-cells-spec =
     enter-sub-window-requires
     cast-draws
     add-draws
-    cast-lost
     add-lost
     add-index
     loop-less
     loop-again
+    cast-passed
     passed-requires
     same-length
     returns)
