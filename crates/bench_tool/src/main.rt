@@ -2,6 +2,8 @@
 // commands; the file `stdin` beside this folder is a tour of them.
 //
 // It holds up to four sketches, a to d, and does nothing to them but by the public calls of the core.
+#![tactic(auto)]
+
 mod asking;
 mod commands;
 mod files;

@@ -1,4 +1,6 @@
 // Document 02, T-11, for the bench tool's picture of a cell: how far it zooms in at a crossing.
+#![tactic(auto)]
+
 ghost use Rattle.std.specs.Prelude.{◌≡◌, cond, ◌-◌, ◌≤◌, max, eqb, length};
 ghost use Rattle.laws.specs.Sums.{largest};
 ghost use Rattle.cell.specs.Cell.{pixel_of, with_pixel};

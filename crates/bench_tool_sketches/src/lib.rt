@@ -1,5 +1,7 @@
 // What the bench tool does with its sketches, but for files and watched codes, and what it says: to a line that is no command, of a
 // call that was refused, and of a sketch that is only looked at.
+#![tactic(auto)]
+
 pub mod card;
 pub mod cases;
 pub mod fresh;

@@ -1,4 +1,6 @@
 // Document 01, "Crossing" (cell.rs): a cell moves on into a later sub-window.
+#![tactic(auto)]
+
 mod worker;
 
 ghost use Rattle.std.specs.Prelude.{◌≡◌};

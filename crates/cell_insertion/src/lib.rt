@@ -1,4 +1,6 @@
 // Document 01, "Insertion" (cell.rs): an item is recorded in a cell.
+#![tactic(auto)]
+
 pub mod worker;
 
 ghost use Rattle.std.specs.Prelude.{◌≡◌};

@@ -1,2 +1,4 @@
 // Document 01, "Settings and cell": where a cell's fields stand.
+#![tactic(auto)]
+
 pub mod fields;

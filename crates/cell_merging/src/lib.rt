@@ -1,4 +1,6 @@
 // Document 01, "Merge" (cell.rs): what two cells counted becomes the count of one.
+#![tactic(auto)]
+
 pub mod merge;
 
 ghost use Rattle.std.specs.Prelude.{◌≡◌};

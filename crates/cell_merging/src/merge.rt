@@ -14,7 +14,7 @@ use refusal::Verdict;
 use rounding::Rounding;
 
 // What two shutters make: whole units of the target for the pixel of n, and what is left in the shutter.
-#[derive(Drop)]
+#[derive(Clone, Copy)]
 struct Carry {
     units: u32,
     rest: u32,

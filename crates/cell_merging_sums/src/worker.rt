@@ -14,7 +14,7 @@ use cell_layout::fields;
 use rounding::{Divided, worker};
 
 // Sums that fit a byte each: the zoom at which they do, what drawing for them left, and the units that were cut off.
-#[derive(Drop)]
+#[derive(Clone, Copy)]
 pub struct Summed {
     pub zoom: u8,
     pub state: u64,

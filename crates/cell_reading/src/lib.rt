@@ -1,4 +1,6 @@
 // Document 01, "Settings and cell" (cell.rs): what can be read off a cell, and the largest zoom of a base.
+#![tactic(auto)]
+
 ghost use Rattle.std.specs.Prelude.{◌≡◌};
 ghost use Rattle.cell.specs.Refusals.{params_call, layout_call, max_zoom_call, cell_verdict, zoom_call, shutter_call, pixel_call};
 

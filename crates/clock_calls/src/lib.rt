@@ -1,4 +1,6 @@
 // Document 01, "Clock" (microscope.rs): the calls on a clock alone.
+#![tactic(auto)]
+
 mod worker;
 
 ghost use Rattle.std.specs.Prelude.{◌≡◌};

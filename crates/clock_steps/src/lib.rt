@@ -1,4 +1,6 @@
 // Document 01, "Clock" (microscope.rs): a clock is judged, read, moved on, begun anew and compared.
+#![tactic(auto)]
+
 pub mod worker;
 
 ghost use Rattle.std.specs.Prelude.{◌≡◌};

@@ -3,11 +3,13 @@
 //
 // The columns and the limits of the codes stand in two arrays of fixed size that the caller keeps and lends, as it does the
 // grid: 8,192 columns, the codes' one behind another, are 64 codes of 128 rows.
+#![tactic(auto)]
+
 use refusal::Verdict;
 
 // The watched codes without their columns and limits. It goes into a call by value, and the one that comes back is the one
 // to go on with.
-#[derive(Drop)]
+#[derive(Clone, Copy)]
 pub struct Watch {
     pub count: usize,
     // The rows of the sketch for which they were set.
@@ -17,14 +19,14 @@ pub struct Watch {
 }
 
 // What setting a list gives: the codes to go on with, as they came if it is refused.
-#[derive(Drop)]
+#[derive(Clone, Copy)]
 pub struct WatchAnswer {
     pub verdict: Verdict,
     pub watch: Watch,
 }
 
 // What an asking gives beside the list's bytes: how many codes are listed, 0 if it is refused.
-#[derive(Drop)]
+#[derive(Clone, Copy)]
 pub struct AskAnswer {
     pub verdict: Verdict,
     pub listed: usize,

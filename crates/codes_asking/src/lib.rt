@@ -1,4 +1,6 @@
 // Document 02, T-01: which of the watched codes have newly reached their limit.
+#![tactic(auto)]
+
 mod judge;
 mod pass;
 

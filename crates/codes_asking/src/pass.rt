@@ -7,7 +7,7 @@ ghost use Rattle.codes_asking.specs.Workers.{Askable, Room, Noted, Told};
 use sketch::MicroCm;
 
 // What a pass finds: how many codes it listed, and a bit for each that is at its limit or above.
-#[derive(Drop)]
+#[derive(Clone, Copy)]
 pub struct Found {
     pub listed: usize,
     pub reached: u64,

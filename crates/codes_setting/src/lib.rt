@@ -1,4 +1,6 @@
 // Document 02, T-01: a list of codes to watch is set.
+#![tactic(auto)]
+
 mod judge;
 
 ghost use Rattle.std.specs.Prelude.{◌≡◌, ◌≤◌, length};

@@ -1,5 +1,7 @@
 // What each call leaves in the words that a caller keeps. Each function returns document 01's number, 0 if the call was accepted;
 // what a call changes a refused one leaves, what it tells is written either way.
+#![tactic(auto)]
+
 ghost use Rattle.std.specs.Prelude.{◌≡◌, [], ◌∷◌};
 ghost use Rattle.refusal.specs.Refusals.{number_of, index_of, when_accepted};
 ghost use Rattle.edge_values.specs.Edge.{watch_words, words_after, change_of, sketch_after, codes_after, figures_of, items_of, found_of, shape_words};

@@ -1,5 +1,7 @@
 // The edge to C and Rust, an item on a clock of time. It is compiled by itself: the work of counting an item, which it shares with the
 // item on a count clock, is compiled into a call only where one call has it, and else costs each of them a third more.
+#![tactic(auto)]
+
 ghost use Rattle.std.specs.Prelude.{◌≡◌};
 ghost use Rattle.edge_values.specs.Edge.{changed};
 ghost use Rattle.edge.specs.Calls.{updated_at};

@@ -1,4 +1,6 @@
 // What the words that a caller keeps stand for, and the words of a sketch and of watched codes. include/microscope.h names them.
+#![tactic(auto)]
+
 ghost use Rattle.std.specs.Prelude.{◌≡◌};
 ghost use Rattle.refusal.specs.Refusals.{number_of, index_of};
 ghost use Rattle.clock.specs.Clock.{reading_of};

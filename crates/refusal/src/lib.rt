@@ -1,8 +1,10 @@
 // Document 01, "Turning a call back": the verdict that every call gives beside its results.
+#![tactic(auto)]
+
 ghost use Rattle.std.specs.Prelude.{◌≡◌};
 ghost use Rattle.refusal.specs.Refusals.{number_of, index_of, is_accepted};
 
-#[derive(Drop)]
+#[derive(Clone, Copy)]
 pub enum Verdict {
     // Done as asked.
     Accepted,

@@ -1,4 +1,6 @@
 // Document 01, "Draws" (cell.rs, `Rounding`): the random state, a draw from it, and the division that it rounds.
+#![tactic(auto)]
+
 pub mod worker;
 
 ghost use Rattle.std.specs.Prelude.{◌≡◌};
@@ -9,34 +11,34 @@ use refusal::Verdict;
 
 // The random state. It goes into a call by value, and the one that comes back is the one to go on with: a copy kept
 // aside would give the same draws again.
-#[derive(Drop)]
+#[derive(Clone, Copy)]
 pub struct Rounding {
     pub state: u64,
 }
 
 // The state that a draw leaves, and the number that it yields.
-#[derive(Drop)]
+#[derive(Clone, Copy)]
 pub struct Draw {
     pub state: u64,
     pub value: u64,
 }
 
 // A rounded quotient, the state after it, and how many draws it took.
-#[derive(Drop)]
+#[derive(Clone, Copy)]
 pub struct Divided {
     pub value: u64,
     pub state: u64,
     pub draws: u32,
 }
 
-#[derive(Drop)]
+#[derive(Clone, Copy)]
 pub struct DrawAnswer {
     pub verdict: Verdict,
     pub value: u64,
     pub rounding: Rounding,
 }
 
-#[derive(Drop)]
+#[derive(Clone, Copy)]
 pub struct DivisionAnswer {
     pub verdict: Verdict,
     pub value: u64,

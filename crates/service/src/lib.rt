@@ -1,5 +1,7 @@
 // What a service page starts from: a sketch, and beside it what is kept of the watched codes (document 02, T-01). A fresh
 // start and a load give it whole, so neither leaves codes of before. No call that counts takes it: those take the sketch.
+#![tactic(auto)]
+
 ghost use Rattle.std.specs.Prelude.{◌≡◌};
 ghost use Rattle.service.specs.Service.{served, service_outcome, start_call, load_call};
 
@@ -9,14 +11,14 @@ use codes::Watch;
 use refusal::Verdict;
 use sketch::MicroCm;
 
-#[derive(Drop)]
+#[derive(Clone, Copy)]
 pub struct Service {
     pub sketch: MicroCm,
     pub watch: Watch,
 }
 
 // A refused start or load gives in place of a sketch one that every call refuses.
-#[derive(Drop)]
+#[derive(Clone, Copy)]
 pub struct ServiceAnswer {
     pub verdict: Verdict,
     pub service: Service,

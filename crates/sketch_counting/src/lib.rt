@@ -2,6 +2,8 @@
 //
 // A call judges first and writes after: a refused one leaves the sketch and every byte of the grid as they came. A slice is
 // handed on as a part, `&key[..]`: whole, it would be copied through memory at each call.
+#![tactic(auto)]
+
 mod answer;
 
 ghost use Rattle.std.specs.Prelude.{◌≡◌};

@@ -14,7 +14,7 @@ use sketch::{MicroCm, Passed};
 use sketch_counting_passes::worker;
 
 // What an item did. The sketch is not in it: whole, it would be copied on the way.
-#[derive(Drop)]
+#[derive(Clone, Copy)]
 pub struct Counted {
     pub verdict: Verdict,
     pub passed: Passed,

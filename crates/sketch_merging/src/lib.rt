@@ -1,4 +1,6 @@
 // Document 01, "Merge", of two sketches: cell by cell in grid order, all drawing from the receiving sketch's random state.
+#![tactic(auto)]
+
 pub mod judge;
 pub mod pass;
 

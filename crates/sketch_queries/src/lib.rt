@@ -1,4 +1,6 @@
 // Document 01, "Sketch and grid" and "Audit and block store": the calls that look at a sketch's cells and change nothing.
+#![tactic(auto)]
+
 mod highest;
 
 ghost use Rattle.std.specs.Prelude.{◌≡◌};

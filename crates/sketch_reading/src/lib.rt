@@ -1,4 +1,6 @@
 // Document 01, "Figures": what a sketch says of a key.
+#![tactic(auto)]
+
 mod judge;
 mod worker;
 

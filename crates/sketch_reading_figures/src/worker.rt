@@ -12,14 +12,14 @@ use sketch::{MicroCm, Reading};
 use sketch_reading_rows::worker;
 
 // A whole number below 2^53 and the same number as f64.
-#[derive(Drop)]
+#[derive(Clone, Copy)]
 pub struct Exact {
     pub whole: u64,
     pub value: f64,
 }
 
 // A reading beside the same figures as whole numbers.
-#[derive(Drop)]
+#[derive(Clone, Copy)]
 pub struct Estimated {
     pub reading: Reading,
     pub over: u64,

@@ -1,4 +1,6 @@
 // Document 01, "Sketch and grid": a fresh start.
+#![tactic(auto)]
+
 mod judge;
 
 ghost use Rattle.std.specs.Prelude.{◌≡◌};

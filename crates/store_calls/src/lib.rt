@@ -1,4 +1,6 @@
 // Document 01, "Audit and block store": the calls that save and load a sketch and its grid.
+#![tactic(auto)]
+
 ghost use Rattle.std.specs.Prelude.{◌≡◌, length};
 ghost use Rattle.sketch.specs.Refusals.{sketch_outcome, undrawn, no_sketch};
 ghost use Rattle.sketch.specs.Sketch.{grid_bytes};

@@ -1,4 +1,6 @@
 // Document 01, "Audit and block store": the header of a store, the sketch in block 0.
+#![tactic(auto)]
+
 pub mod fields;
 
 ghost use Rattle.std.specs.Prelude.{◌≡◌};
@@ -7,7 +9,7 @@ ghost use Rattle.store_header.specs.Refusals.{header_number};
 use sketch::MicroCm;
 
 // What the header's block says: a sketch, or the number by which it is refused.
-#[derive(Drop)]
+#[derive(Clone, Copy)]
 pub enum Header {
     Sketch(MicroCm),
     Refused(u8),

@@ -1,5 +1,7 @@
 // Which sketch a store of unknown origin holds, and how long a grid is to be lent for a load of it. Blocks, header and length are
 // judged as a load judges them; no cell is.
+#![tactic(auto)]
+
 ghost use Rattle.std.specs.Prelude.{◌≡◌};
 ghost use Rattle.store_shape.specs.Shape.{shaped, shapeless, shape_call};
 
@@ -9,7 +11,7 @@ use store_header::{Header, fields};
 use store_judging::judge;
 
 // What a store says of its sketch; all 0 if refused.
-#[derive(Drop)]
+#[derive(Clone, Copy)]
 pub struct ShapeAnswer {
     pub verdict: Verdict,
     pub rows: usize,

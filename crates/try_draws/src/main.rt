@@ -1,5 +1,7 @@
 // Long runs of draws and of rounded divisions through the public calls, then single calls at the edges. What all this
 // must print was made by a C program that shares nothing with it (docs/DRAWS.md).
+#![tactic(auto)]
+
 mod course;
 mod division;
 mod sequence;

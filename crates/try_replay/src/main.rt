@@ -1,5 +1,7 @@
 // Replays the recorded answers of the published Rust through our calls, and compares them byte for byte. The records
 // stand in files in the folder that the program is run in; docs/ORACLE.md has their formats.
+#![tactic(auto)]
+
 mod answer;
 mod cells;
 mod clocks;
