@@ -86,3 +86,18 @@ pub fn columns(rt: &impl Print, key: &[u32], comma: &[u8]) -> io::Result<()> {
     }
     Ok(())
 }
+
+// An error of the system as text has its number behind its words.
+fn without_number(told: &str) -> &str {
+    match told.split_once(" (os error ") {
+        Some((words, _)) => words,
+        None => told,
+    }
+}
+
+// A line on standard error: what failed, and the system's words for why.
+pub fn failure<R: Eprint + Alloc>(rt: &R, what: &str, error: io::Error) -> io::Result<()> {
+    let told = format!(in rt.alloc(); "{error}")?;
+    let why = without_number(told.as_str());
+    eprintln!(rt; "{what}: {why}")
+}
