@@ -1,7 +1,7 @@
 -- The sum gives each byte a weight of its own, so no byte can change alone; all else of a block is its number and its payload, read where they were written.
 use Prim.Native.Nat.{ℕ, zero, suc, ◌+◌, ◌-◌, ◌*◌, ◌^◌, ◌≤◌, ◌<◌}
 use mathlib.Core.Path.{◌≡◌, refl, sym, ap, ap₂, ◌∙◌}
-use mathlib.Core.Bool.{true, false, ◌&&◌, and-eq-true_iff, and_false}
+use mathlib.Core.Bool.{true, false, ◌&&◌, and-eq-true_iff, and-false}
 use mathlib.Core.List.{List, [], ◌∷◌, ◌++◌, append_assoc}
 use lib.Dec.{eqb}
 use lib.ListN.{length, take, drop, get_or, set, length-append, length-take, length-drop, take-append-drop}
@@ -104,7 +104,7 @@ module _ (number : ℕ) (b : List ℕ) (long : length b ≡ 512) (passes : block
   -- any one changed byte is refused
   pub block_changed : (k v : ℕ) → k < 512 → (v ≡ get_or b k 0 → ⊥) → block_passes number (set b k v) ≡ false
   unfolding block_passes
-  block_changed k v h ne = rw (by (dec_lt k 508)) (and_false (eqb (number_of (take 4 (set b k v))) number))
+  block_changed k v h ne = rw (by (dec_lt k 508)) (and-false (eqb (number_of (take 4 (set b k v))) number))
     where
       by : Dec (k < 508) → eqb (number_of (drop 508 (set b k v))) (weighed_from 0 (take 508 (set b k v))) ≡ false
       by (yes q) =

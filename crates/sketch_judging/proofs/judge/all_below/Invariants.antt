@@ -1,0 +1,11 @@
+-- `all_below`: the columns before this row are below cols. Assumes nothing.
+use Rattle.sketch.proofs.SettingsCases.{Rows}
+use Prim.Native.Nat.{◌-◌}
+use lib.ListN.{length}
+use Rattle.sketch_judging.proofs.judge.all_below.Given as goal
+
+abbrev pub invariant-loop-row : goal.invariant-loop-row
+invariant-loop-row l = Rows l.cols l.key l.row
+
+abbrev pub decreases-loop-row : goal.decreases-loop-row
+decreases-loop-row l = length l.key - l.row
