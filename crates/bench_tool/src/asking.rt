@@ -1,4 +1,5 @@
 // Which of the watched codes have newly reached their limit.
+use bench_tool_sketches::print::Answers;
 use bench_tool_sketches::slots::{Shelf, Slot};
 use bench_tool_sketches::usage::Kind;
 use bench_tool_sketches::{kept, print, slots, usage, verdicts};
@@ -13,22 +14,34 @@ fn columns_of(columns: &[u32], rows: usize, code: u8) -> &[u32] {
     columns::part(columns, from, std::num::wrapping_add_usize(from, rows))
 }
 
-fn tell_code(sketch: MicroCm, columns: &[u32], limits: &[u64], grid: &[u8], code: u8) {
+fn tell_code(
+    out: &mut Answers<impl Print>,
+    sketch: MicroCm,
+    columns: &[u32],
+    limits: &[u64],
+    grid: &[u8],
+    code: u8,
+) {
     let key = columns_of(columns, sketch.rows, code);
     let answer = sketch_reading::estimate(sketch, key, grid);
-    print::number(b"  code ", code as u64);
-    print::text(b" columns=");
-    print::columns(key);
-    print::number(b" over_items=", answer.over);
-    print::number(b" limit=", limits::get(limits, code as usize));
-    print::text(b"\n");
+    print::number(out, b"  code ", code as u64);
+    print::text(out, b" columns=");
+    print::columns(out, key);
+    print::number(out, b" over_items=", answer.over);
+    print::number(out, b" limit=", limits::get(limits, code as usize));
+    print::text(out, b"\n");
 }
 
-fn tell_codes(sketch: MicroCm, columns: &[u32], limits: &[u64], grid: &[u8], list: &[u8]) {
-    let mut i: usize = 0;
-    while i < list.len() {
-        tell_code(sketch, columns, limits, grid, list[i]);
-        i += 1;
+fn tell_codes(
+    out: &mut Answers<impl Print>,
+    sketch: MicroCm,
+    columns: &[u32],
+    limits: &[u64],
+    grid: &[u8],
+    list: &[u8],
+) {
+    for code in list {
+        tell_code(out, sketch, columns, limits, grid, *code);
     }
 }
 
@@ -50,6 +63,7 @@ fn ask_with(
 }
 
 fn told(
+    out: &mut Answers<impl Print>,
     slot: Slot,
     columns: &[u32; 8192],
     limits: &[u64; 64],
@@ -60,12 +74,13 @@ fn told(
     let answer = ask_with(slot, columns, limits, grid, &mut list, room);
     let verdict = answer.verdict;
     if !verdict.accepted() {
-        verdicts::refused(verdict);
+        verdicts::refused(out, verdict);
         return answer;
     }
-    print::number(b"ok listed=", answer.listed as u64);
-    print::text(b"\n");
+    print::number(out, b"ok listed=", answer.listed as u64);
+    print::text(out, b"\n");
     tell_codes(
+        out,
         slot.sketch,
         columns,
         limits,
@@ -76,6 +91,7 @@ fn told(
 }
 
 fn asked(
+    out: &mut Answers<impl Print>,
     slot: Slot,
     place: usize,
     columns: &[u32],
@@ -87,7 +103,7 @@ fn asked(
     let mut own_limits = [0u64; 64];
     kept::lend_columns(columns, place, &mut own_columns);
     kept::lend_limits(limits, place, &mut own_limits);
-    told(slot, &own_columns, &own_limits, grid, room)
+    told(out, slot, &own_columns, &own_limits, grid, room)
 }
 
 // The bytes of the list, 64 if the line does not say: no list needs more.
@@ -98,16 +114,23 @@ fn room_in(line: &[u8]) -> Found {
     numbers::at_most(words::word(line, 2), 64)
 }
 
-pub fn ask(line: &[u8], grids: &[u8], columns: &[u32], limits: &[u64], shelf: Shelf) -> Shelf {
+pub fn ask(
+    out: &mut Answers<impl Print>,
+    line: &[u8],
+    grids: &[u8],
+    columns: &[u32],
+    limits: &[u64],
+    shelf: Shelf,
+) -> Shelf {
     let found = room_in(line);
     let Found::Value(room) = found else {
-        usage::expected(Kind::Ask);
+        usage::expected(out, Kind::Ask);
         return shelf;
     };
     let place = slots::place(words::word(line, 1));
     let slot = shelf.get(place);
     let grid = slots::grid(grids, place, slot.size);
-    let answer = asked(slot, place, columns, limits, grid, room as usize);
+    let answer = asked(out, slot, place, columns, limits, grid, room as usize);
     let watch = answer.watch;
     shelf.with_watch(place, watch)
 }

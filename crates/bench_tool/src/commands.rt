@@ -1,43 +1,53 @@
 // A line: which command it is, whether it has the words and the sketch that the command needs, and the command.
 use crate::{asking, files, watching};
+use bench_tool_sketches::print::Answers;
 use bench_tool_sketches::slots::Shelf;
 use bench_tool_sketches::usage::Kind;
 use bench_tool_sketches::{card, cases, fresh, items, merge, print, queries, slots, usage};
 use program_text::words;
+use std::rt::Files;
 
-fn say(line: &[u8]) {
-    print::text(words::rest(line, 1));
-    print::text(b"\n");
+fn say(out: &mut Answers<impl Print>, line: &[u8]) {
+    print::text(out, words::rest(line, 1));
+    print::text(out, b"\n");
 }
 
 // The commands that change nothing.
-fn look(kind: Kind, line: &[u8], grids: &[u8], shelf: Shelf) {
+fn look(out: &mut Answers<impl Print>, kind: Kind, line: &[u8], grids: &[u8], shelf: Shelf) {
     let place = slots::place(words::word(line, 1));
     let slot = shelf.get(place);
     let grid = slots::grid(grids, place, slot.size);
-    queries::answer(kind, line, slot.sketch, grid);
+    queries::answer(out, kind, line, slot.sketch, grid);
 }
 
 // The commands on a sketch that is there.
-fn work(kind: Kind, line: &[u8], grids: &mut [u8], room: &mut [u8], shelf: Shelf) -> Shelf {
+fn work<R: Files + Print + Alloc>(
+    rt: &R,
+    out: &mut Answers<R>,
+    kind: Kind,
+    line: &[u8],
+    grids: &mut [u8],
+    room: &mut [u8],
+    shelf: Shelf,
+) -> Shelf {
     match kind {
-        Kind::Update => items::update(line, grids, shelf),
-        Kind::Updates => items::updates(line, grids, shelf),
-        Kind::UpdateAt => items::update_at(line, grids, shelf),
-        Kind::Advance => items::advance(line, grids, shelf),
-        Kind::Merge => merge::merge(line, grids, room, shelf),
-        Kind::SetClock => cases::set_clock(line, shelf),
-        Kind::SetState => cases::set_state(line, shelf),
+        Kind::Update => items::update(out, line, grids, shelf),
+        Kind::Updates => items::updates(out, line, grids, shelf),
+        Kind::UpdateAt => items::update_at(out, line, grids, shelf),
+        Kind::Advance => items::advance(out, line, grids, shelf),
+        Kind::Merge => merge::merge(out, line, grids, room, shelf),
+        Kind::SetClock => cases::set_clock(out, line, shelf),
+        Kind::SetState => cases::set_state(out, line, shelf),
         Kind::SetGrid => {
-            cases::set_grid(line, grids, shelf);
+            cases::set_grid(out, line, grids, shelf);
             shelf
         }
         Kind::Save => {
-            files::save(line, &grids[..], room, shelf);
+            files::save(rt, out, line, &grids[..], room, shelf);
             shelf
         }
         _ => {
-            look(kind, line, &grids[..], shelf);
+            look(out, kind, line, &grids[..], shelf);
             shelf
         }
     }
@@ -66,7 +76,9 @@ fn words_fit(kind: Kind, count: usize) -> bool {
 }
 
 // The commands on a sketch and its watched codes, and all others.
-fn watch_or_work(
+fn watch_or_work<R: Files + Print + Alloc>(
+    rt: &R,
+    out: &mut Answers<R>,
     kind: Kind,
     line: &[u8],
     grids: &mut [u8],
@@ -76,13 +88,15 @@ fn watch_or_work(
     shelf: Shelf,
 ) -> Shelf {
     match kind {
-        Kind::Watch => watching::watch(line, columns, limits, shelf),
-        Kind::Ask => asking::ask(line, &grids[..], &columns[..], &limits[..], shelf),
-        _ => work(kind, line, grids, room, shelf),
+        Kind::Watch => watching::watch(out, line, columns, limits, shelf),
+        Kind::Ask => asking::ask(out, line, &grids[..], &columns[..], &limits[..], shelf),
+        _ => work(rt, out, kind, line, grids, room, shelf),
     }
 }
 
-fn on_sketch(
+fn on_sketch<R: Files + Print + Alloc>(
+    rt: &R,
+    out: &mut Answers<R>,
     kind: Kind,
     line: &[u8],
     grids: &mut [u8],
@@ -93,22 +107,24 @@ fn on_sketch(
 ) -> Shelf {
     let place = slots::place(words::word(line, 1));
     if place > 3 || !words_fit(kind, words::count(line)) {
-        usage::expected(kind);
+        usage::expected(out, kind);
         return shelf;
     }
     if let Kind::Load = kind {
-        return files::load(line, grids, room, shelf);
+        return files::load(rt, out, line, grids, room, shelf);
     }
     let slot = shelf.get(place);
     if slot.size == 0 {
-        usage::no_sketch(words::word(line, 1));
+        usage::no_sketch(out, words::word(line, 1));
         return shelf;
     }
-    watch_or_work(kind, line, grids, room, columns, limits, shelf)
+    watch_or_work(rt, out, kind, line, grids, room, columns, limits, shelf)
 }
 
 // One line of the input.
-pub fn run(
+pub fn run<R: Files + Print + Alloc>(
+    rt: &R,
+    out: &mut Answers<R>,
     whole: &[u8],
     grids: &mut [u8],
     room: &mut [u8],
@@ -123,23 +139,23 @@ pub fn run(
     }
     let kind = usage::named(name);
     match kind {
-        Kind::New => fresh::new(line, grids, shelf),
+        Kind::New => fresh::new(out, line, grids, shelf),
         Kind::Help => {
-            usage::help();
+            usage::help(out);
             shelf
         }
         Kind::Card => {
-            card::card();
+            card::card(out);
             shelf
         }
         Kind::Say => {
-            say(line);
+            say(out, line);
             shelf
         }
         Kind::Unknown => {
-            usage::expected(kind);
+            usage::expected(out, kind);
             shelf
         }
-        _ => on_sketch(kind, line, grids, room, columns, limits, shelf),
+        _ => on_sketch(rt, out, kind, line, grids, room, columns, limits, shelf),
     }
 }

@@ -1,4 +1,5 @@
 // A sketch into a file and back, as a block store.
+use bench_tool_sketches::print::Answers;
 use bench_tool_sketches::slots::{Shelf, Slot};
 use bench_tool_sketches::{fresh, print, slots, verdicts};
 use cell::MicroParams;
@@ -7,11 +8,12 @@ use program_text::{fields, files, numbers, words};
 use refusal::Verdict;
 use service::ServiceAnswer;
 use sketch::MicroCm;
+use std::rt::Files;
 
-fn failed(what: &[u8], name: &[u8]) {
-    print::text(what);
-    print::text(name);
-    print::text(b"\n");
+fn failed(out: &mut Answers<impl Print>, what: &[u8], name: &[u8]) {
+    print::text(out, what);
+    print::text(out, name);
+    print::text(out, b"\n");
 }
 
 fn save_in(room: &mut [u8], length: usize, sketch: MicroCm, grid: &[u8]) -> Verdict {
@@ -21,26 +23,46 @@ fn save_in(room: &mut [u8], length: usize, sketch: MicroCm, grid: &[u8]) -> Verd
     store_calls::save(&mut room[0..length], sketch, grid)
 }
 
-fn save_sketch(name: &[u8], room: &mut [u8], sketch: MicroCm, grid: &[u8]) {
+fn save_sketch<R: Files + Print + Alloc>(
+    rt: &R,
+    out: &mut Answers<R>,
+    name: &[u8],
+    room: &mut [u8],
+    sketch: MicroCm,
+    grid: &[u8],
+) {
     let answer = store_calls::store_length(sketch);
     let length = answer.length;
     let verdict = save_in(room, length, sketch, grid);
     if !verdict.accepted() {
-        verdicts::refused(verdict);
+        verdicts::refused(out, verdict);
         return;
     }
-    if files::write(name, words::part(&room[..], 0, length)) {
-        print::number(b"ok bytes=", length as u64);
-        print::text(b"\n");
+    if files::write(rt, name, words::part(&room[..], 0, length)).is_ok() {
+        print::number(out, b"ok bytes=", length as u64);
+        print::text(out, b"\n");
         return;
     }
-    failed(b"error expected a file that can be written, not ", name);
+    failed(
+        out,
+        b"error expected a file that can be written, not ",
+        name,
+    );
 }
 
-pub fn save(line: &[u8], grids: &[u8], room: &mut [u8], shelf: Shelf) {
+pub fn save<R: Files + Print + Alloc>(
+    rt: &R,
+    out: &mut Answers<R>,
+    line: &[u8],
+    grids: &[u8],
+    room: &mut [u8],
+    shelf: Shelf,
+) {
     let place = slots::place(words::word(line, 1));
     let slot = shelf.get(place);
     save_sketch(
+        rt,
+        out,
         words::word(line, 2),
         room,
         slot.sketch,
@@ -70,47 +92,68 @@ fn load_in(place: usize, size: usize, grids: &mut [u8], store: &[u8]) -> Service
     service::load(&mut grids[from..to], store)
 }
 
-fn tell_loaded(sketch: MicroCm) {
+fn tell_loaded(out: &mut Answers<impl Print>, sketch: MicroCm) {
     let clock = sketch.clock;
     let now = clock_calls::n(clock);
-    print::number(b"ok rows=", sketch.rows as u64);
-    print::number(b" cols=", sketch.cols as u64);
-    print::number(b" n=", now.n);
-    print::text(b"\n");
+    print::number(out, b"ok rows=", sketch.rows as u64);
+    print::number(out, b" cols=", sketch.cols as u64);
+    print::number(out, b" n=", now.n);
+    print::text(out, b"\n");
 }
 
-fn load_store(store: &[u8], grids: &mut [u8], place: usize, shelf: Shelf) -> Shelf {
+fn load_store(
+    out: &mut Answers<impl Print>,
+    store: &[u8],
+    grids: &mut [u8],
+    place: usize,
+    shelf: Shelf,
+) -> Shelf {
     let size = size_in(store);
     let answer = load_in(place, size, grids, store);
     let verdict = answer.verdict;
     let service = answer.service;
     if !verdict.accepted() {
-        verdicts::refused(verdict);
+        verdicts::refused(out, verdict);
         return shelf;
     }
-    tell_loaded(service.sketch);
+    tell_loaded(out, service.sketch);
     shelf.with(place, Slot::of(service, size))
 }
 
-fn load_taken(taken: Taken, line: &[u8], room: &[u8], grids: &mut [u8], shelf: Shelf) -> Shelf {
+fn load_taken(
+    out: &mut Answers<impl Print>,
+    taken: Taken,
+    line: &[u8],
+    room: &[u8],
+    grids: &mut [u8],
+    shelf: Shelf,
+) -> Shelf {
     let name = words::word(line, 2);
     let got = taken.count;
     if got >= room.len() {
         failed(
+            out,
             b"error expected a file of at most 1065984 bytes, not ",
             name,
         );
         return shelf;
     }
     if !taken.whole {
-        failed(b"error expected a file that can be read, not ", name);
+        failed(out, b"error expected a file that can be read, not ", name);
         return shelf;
     }
     let place = slots::place(words::word(line, 1));
-    load_store(words::part(room, 0, got), grids, place, shelf)
+    load_store(out, words::part(room, 0, got), grids, place, shelf)
 }
 
-pub fn load(line: &[u8], grids: &mut [u8], room: &mut [u8], shelf: Shelf) -> Shelf {
-    let taken = files::read(words::word(line, 2), room);
-    load_taken(taken, line, &room[..], grids, shelf)
+pub fn load<R: Files + Print + Alloc>(
+    rt: &R,
+    out: &mut Answers<R>,
+    line: &[u8],
+    grids: &mut [u8],
+    room: &mut [u8],
+    shelf: Shelf,
+) -> Shelf {
+    let taken = files::read(rt, words::word(line, 2), room);
+    load_taken(out, taken, line, &room[..], grids, shelf)
 }

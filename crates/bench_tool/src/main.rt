@@ -10,7 +10,13 @@ mod files;
 mod input;
 mod watching;
 
-fn main() {
+use bench_tool_sketches::print::Answers;
+use program_text::print;
+use std::io;
+
+fn main(rt: HostRuntime) -> io::Result<()> {
+    let mut out = Answers::new(&rt);
+    let mut input = rt.stdin();
     // A line has to fit this, its line end too.
     let mut lines = [0u8; 65536];
     // The grids of a to d, 1 MiB each.
@@ -21,10 +27,17 @@ fn main() {
     let mut columns = [0u32; 32768];
     let mut limits = [0u64; 256];
     input::all(
+        &rt,
+        &mut out,
+        &mut input,
         &mut lines,
         &mut grids,
         &mut store,
         &mut columns,
         &mut limits,
-    );
+    )?;
+    if let Some(error) = out.failure() {
+        print::failure(&rt, "bench_tool: standard output cannot be written", error)?;
+    }
+    Ok(())
 }

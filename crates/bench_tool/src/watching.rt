@@ -1,4 +1,5 @@
 // A list of codes to watch is set.
+use bench_tool_sketches::print::Answers;
 use bench_tool_sketches::slots::{Shelf, Slot};
 use bench_tool_sketches::usage::Kind;
 use bench_tool_sketches::{kept, print, slots, usage, verdicts};
@@ -30,19 +31,20 @@ fn set(
     answer
 }
 
-fn told(answer: WatchAnswer, place: usize, shelf: Shelf) -> Shelf {
+fn told(out: &mut Answers<impl Print>, answer: WatchAnswer, place: usize, shelf: Shelf) -> Shelf {
     let verdict = answer.verdict;
     let watch = answer.watch;
     if !verdict.accepted() {
-        verdicts::refused(verdict);
+        verdicts::refused(out, verdict);
         return shelf;
     }
-    print::number(b"ok codes=", watch.count as u64);
-    print::text(b"\n");
+    print::number(out, b"ok codes=", watch.count as u64);
+    print::text(out, b"\n");
     shelf.with_watch(place, watch)
 }
 
 fn given(
+    out: &mut Answers<impl Print>,
     line: &[u8],
     given_columns: &mut [u32; 32768],
     given_limits: &mut [u64; 16384],
@@ -52,7 +54,7 @@ fn given(
 ) -> Shelf {
     let list = lists::taken(line, given_columns, given_limits);
     if !list.good {
-        usage::expected(Kind::Watch);
+        usage::expected(out, Kind::Watch);
         return shelf;
     }
     let place = slots::place(words::word(line, 1));
@@ -64,11 +66,12 @@ fn given(
         columns,
         limits,
     );
-    told(answer, place, shelf)
+    told(out, answer, place, shelf)
 }
 
 // These have room for any line: a column takes two bytes of it, as a comma or a colon follows, and a code four.
 pub fn watch(
+    out: &mut Answers<impl Print>,
     line: &[u8],
     columns: &mut [u32; 32768],
     limits: &mut [u64; 256],
@@ -77,6 +80,7 @@ pub fn watch(
     let mut given_columns = [0u32; 32768];
     let mut given_limits = [0u64; 16384];
     given(
+        out,
         line,
         &mut given_columns,
         &mut given_limits,

@@ -2,6 +2,7 @@
 ghost use Rattle.std.specs.Prelude.{◌≤◌};
 
 use crate::print;
+use crate::print::Answers;
 
 // 0 of a number that is no base.
 fn ceiling(c: u32) -> u8 {
@@ -16,23 +17,23 @@ fn ends_line(c: u32) -> bool
     ceiling(c) != ceiling(c + 1)
 }
 
-fn line(first: u32, last: u32) {
-    print::number(b"  ", first as u64);
+fn line(out: &mut Answers<impl Print>, first: u32, last: u32) {
+    print::number(out, b"  ", first as u64);
     if first == last {
-        print::number(b" gives ", ceiling(last) as u64);
+        print::number(out, b" gives ", ceiling(last) as u64);
     } else {
-        print::number(b" to ", last as u64);
-        print::number(b" give ", ceiling(last) as u64);
+        print::number(out, b" to ", last as u64);
+        print::number(out, b" give ", ceiling(last) as u64);
     }
-    print::text(b"\n");
+    print::text(out, b"\n");
 }
 
-pub fn card() {
-    print::text(b"ok the highest zoom of each base c\n");
+pub fn card(out: &mut Answers<impl Print>) {
+    print::text(out, b"ok the highest zoom of each base c\n");
     let mut first: u32 = 2;
     for c in 2..=256 {
         if ends_line(c) {
-            line(first, c);
+            line(out, first, c);
             first = c + 1;
         }
     }

@@ -1,4 +1,5 @@
 // What sets up a bench case. It writes what no call would, and so can make a sketch unsound.
+use crate::print::Answers;
 use crate::slots::Shelf;
 use crate::usage::Kind;
 use crate::{print, slots, usage};
@@ -46,10 +47,10 @@ fn with_clock(sketch: MicroCm, value: u64) -> MicroCm {
     }
 }
 
-pub fn set_clock(line: &[u8], shelf: Shelf) -> Shelf {
+pub fn set_clock(out: &mut Answers<impl Print>, line: &[u8], shelf: Shelf) -> Shelf {
     let found = numbers::number(words::word(line, 2));
     let Found::Value(value) = found else {
-        usage::expected(Kind::SetClock);
+        usage::expected(out, Kind::SetClock);
         return shelf;
     };
     let place = slots::place(words::word(line, 1));
@@ -57,15 +58,15 @@ pub fn set_clock(line: &[u8], shelf: Shelf) -> Shelf {
     let sketch = with_clock(slot.sketch, value);
     let clock = sketch.clock;
     let now = clock_calls::n(clock);
-    print::number(b"ok n=", now.n);
-    print::text(b"\n");
+    print::number(out, b"ok n=", now.n);
+    print::text(out, b"\n");
     shelf.with_sketch(place, sketch)
 }
 
-pub fn set_state(line: &[u8], shelf: Shelf) -> Shelf {
+pub fn set_state(out: &mut Answers<impl Print>, line: &[u8], shelf: Shelf) -> Shelf {
     let found = numbers::number(words::word(line, 2));
     let Found::Value(state) = found else {
-        usage::expected(Kind::SetState);
+        usage::expected(out, Kind::SetState);
         return shelf;
     };
     let place = slots::place(words::word(line, 1));
@@ -73,8 +74,8 @@ pub fn set_state(line: &[u8], shelf: Shelf) -> Shelf {
     let sketch = slot.sketch;
     let params = sketch.params;
     let clock = sketch.clock;
-    print::hex(b"ok state=0x", state);
-    print::text(b"\n");
+    print::hex(out, b"ok state=0x", state);
+    print::text(out, b"\n");
     let after = MicroCm {
         rows: sketch.rows,
         cols: sketch.cols,
@@ -92,15 +93,15 @@ fn fill_in(place: usize, size: usize, grids: &mut [u8], digits: &[u8]) {
     numbers::fill(&mut grids[from..to], digits);
 }
 
-pub fn set_grid(line: &[u8], grids: &mut [u8], shelf: Shelf) {
+pub fn set_grid(out: &mut Answers<impl Print>, line: &[u8], grids: &mut [u8], shelf: Shelf) {
     let place = slots::place(words::word(line, 1));
     let slot = shelf.get(place);
     let digits = words::word(line, 2);
     if digits.len() % 2 != 0 || digits.len() / 2 != slot.size || !numbers::all_hex(digits) {
-        usage::expected(Kind::SetGrid);
+        usage::expected(out, Kind::SetGrid);
         return;
     }
     fill_in(place, slot.size, grids, digits);
-    print::number(b"ok bytes=", slot.size as u64);
-    print::text(b"\n");
+    print::number(out, b"ok bytes=", slot.size as u64);
+    print::text(out, b"\n");
 }

@@ -1,4 +1,5 @@
 // A fresh sketch.
+use crate::print::Answers;
 use crate::slots::{Shelf, Slot};
 use crate::usage::Kind;
 use crate::{print, slots, usage, verdicts};
@@ -9,7 +10,7 @@ use refusal::Verdict;
 use service::{Service, ServiceAnswer};
 
 // What a fresh start is given.
-#[derive(Drop)]
+#[derive(Clone, Copy)]
 struct Asked {
     rows: usize,
     cols: usize,
@@ -71,6 +72,7 @@ fn started_in(asked: Asked, place: usize, size: usize, grids: &mut [u8]) -> Serv
 }
 
 fn shelved(
+    out: &mut Answers<impl Print>,
     answer: ServiceAnswer,
     params: MicroParams,
     place: usize,
@@ -79,42 +81,66 @@ fn shelved(
 ) -> Shelf {
     let verdict = answer.verdict;
     if !verdict.accepted() {
-        verdicts::refused(verdict);
+        verdicts::refused(out, verdict);
         return shelf;
     }
-    print::number(b"ok depth=", depth(params) as u64);
-    print::text(b"\n");
+    print::number(out, b"ok depth=", depth(params) as u64);
+    print::text(out, b"\n");
     let service = answer.service;
     shelf.with(place, Slot::of(service, size))
 }
 
-fn made(asked: Asked, place: usize, size: usize, grids: &mut [u8], shelf: Shelf) -> Shelf {
+fn made(
+    out: &mut Answers<impl Print>,
+    asked: Asked,
+    place: usize,
+    size: usize,
+    grids: &mut [u8],
+    shelf: Shelf,
+) -> Shelf {
     let answer = started_in(asked, place, size, grids);
-    shelved(answer, asked.params, place, size, shelf)
+    shelved(out, answer, asked.params, place, size, shelf)
 }
 
-fn make(asked: Asked, place: usize, grids: &mut [u8], shelf: Shelf) -> Shelf {
+fn make(
+    out: &mut Answers<impl Print>,
+    asked: Asked,
+    place: usize,
+    grids: &mut [u8],
+    shelf: Shelf,
+) -> Shelf {
     let verdict = judged(asked);
     if verdict.number() != 6 {
-        verdicts::refused(verdict);
+        verdicts::refused(out, verdict);
         return shelf;
     }
     let size = size(asked.rows, asked.cols, asked.params);
     if size > slots::LIMIT as u64 {
-        print::number(b"error expected a grid of at most ", slots::LIMIT as u64);
-        print::number(b" bytes; this one has ", size);
-        print::text(b"\n");
+        print::number(
+            out,
+            b"error expected a grid of at most ",
+            slots::LIMIT as u64,
+        );
+        print::number(out, b" bytes; this one has ", size);
+        print::text(out, b"\n");
         return shelf;
     }
-    made(asked, place, size as usize, grids, shelf)
+    made(out, asked, place, size as usize, grids, shelf)
 }
 
-fn counted(line: &[u8], place: usize, grids: &mut [u8], shelf: Shelf) -> Shelf {
+fn counted(
+    out: &mut Answers<impl Print>,
+    line: &[u8],
+    place: usize,
+    grids: &mut [u8],
+    shelf: Shelf,
+) -> Shelf {
     let clock = SubWindowClock::CountBased {
         items_per_sub_window: numbers::value(line, 7),
         seen: 0,
     };
     make(
+        out,
         settings_of(line, clock, numbers::value(line, 8)),
         place,
         grids,
@@ -122,7 +148,13 @@ fn counted(line: &[u8], place: usize, grids: &mut [u8], shelf: Shelf) -> Shelf {
     )
 }
 
-fn timed(line: &[u8], place: usize, grids: &mut [u8], shelf: Shelf) -> Shelf {
+fn timed(
+    out: &mut Answers<impl Print>,
+    line: &[u8],
+    place: usize,
+    grids: &mut [u8],
+    shelf: Shelf,
+) -> Shelf {
     let epoch = numbers::value(line, 8);
     let clock = SubWindowClock::TimeBased {
         sub_window_len: numbers::value(line, 7),
@@ -130,6 +162,7 @@ fn timed(line: &[u8], place: usize, grids: &mut [u8], shelf: Shelf) -> Shelf {
         now: epoch,
     };
     make(
+        out,
         settings_of(line, clock, numbers::value(line, 9)),
         place,
         grids,
@@ -141,7 +174,7 @@ fn is_form(line: &[u8], name: &[u8], count: usize) -> bool {
     if words::count(line) != count {
         return false;
     }
-    if !check::same(words::word(line, 6), name) {
+    if words::word(line, 6) != name {
         return false;
     }
     if !numbers::all_numbers(line, 2, 4) {
@@ -150,18 +183,18 @@ fn is_form(line: &[u8], name: &[u8], count: usize) -> bool {
     numbers::all_numbers(line, 7, std::num::wrapping_sub_usize(count, 7))
 }
 
-pub fn new(line: &[u8], grids: &mut [u8], shelf: Shelf) -> Shelf {
+pub fn new(out: &mut Answers<impl Print>, line: &[u8], grids: &mut [u8], shelf: Shelf) -> Shelf {
     let place = slots::place(words::word(line, 1));
     if place > 3 {
-        usage::expected(Kind::New);
+        usage::expected(out, Kind::New);
         return shelf;
     }
     if is_form(line, b"count", 9) {
-        return counted(line, place, grids, shelf);
+        return counted(out, line, place, grids, shelf);
     }
     if is_form(line, b"time", 10) {
-        return timed(line, place, grids, shelf);
+        return timed(out, line, place, grids, shelf);
     }
-    usage::expected(Kind::New);
+    usage::expected(out, Kind::New);
     shelf
 }

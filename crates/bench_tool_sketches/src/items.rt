@@ -1,4 +1,5 @@
 // The calls that count: items, and time.
+use crate::print::Answers;
 use crate::slots::{Shelf, Slot};
 use crate::usage::Kind;
 use crate::{print, slots, usage, verdicts};
@@ -7,7 +8,7 @@ use program_text::{columns, numbers, words};
 use refusal::Verdict;
 use sketch::{MicroCm, SketchAnswer};
 
-#[derive(Drop)]
+#[derive(Clone, Copy)]
 enum Work {
     Update,
     UpdateAt(u64),
@@ -15,7 +16,7 @@ enum Work {
 }
 
 // A run of the same call: how it stands after the last one made.
-#[derive(Drop)]
+#[derive(Clone, Copy)]
 struct Run {
     answer: SketchAnswer,
     // The draws of all calls made, and the units that they lost.
@@ -75,10 +76,11 @@ fn at_start(sketch: MicroCm) -> Run {
 // The call as often as asked, or until it is refused.
 fn repeated(work: Work, times: u64, sketch: MicroCm, key: &[u32], grid: &mut [u8]) -> Run {
     let mut run = at_start(sketch);
-    let mut left = times;
-    while left > 0 && run.more {
+    for _ in 0..times {
+        if !run.more {
+            break;
+        }
         run = again(work, key, grid, run);
-        left -= 1;
     }
     run
 }
@@ -92,31 +94,32 @@ fn lent(work: Work, times: u64, place: usize, slot: Slot, key: &[u32], grids: &m
     repeated(work, times, sketch, key, &mut grids[from..to])
 }
 
-fn tell(run: Run, times: u64) {
+fn tell(out: &mut Answers<impl Print>, run: Run, times: u64) {
     let answer = run.answer;
     let verdict = answer.verdict;
     let sketch = answer.sketch;
     if verdict.accepted() {
-        tell_counted(sketch, run.draws, run.lost);
+        tell_counted(out, sketch, run.draws, run.lost);
         return;
     }
-    verdicts::begin(verdict);
+    verdicts::begin(out, verdict);
     if times > 1 {
-        print::number(b"; calls made before it: ", run.made);
+        print::number(out, b"; calls made before it: ", run.made);
         if run.lost > 0 {
-            print::number(b", units that they lost: ", run.lost);
+            print::number(out, b", units that they lost: ", run.lost);
         }
     }
-    print::text(b"\n");
+    print::text(out, b"\n");
 }
 
-pub fn tell_counted(sketch: MicroCm, draws: u64, lost: u64) {
+pub fn tell_counted(out: &mut Answers<impl Print>, sketch: MicroCm, draws: u64, lost: u64) {
     let clock = sketch.clock;
     let now = clock_calls::n(clock);
-    print::counted(now.n, draws, lost);
+    print::counted(out, now.n, draws, lost);
 }
 
 fn worked(
+    out: &mut Answers<impl Print>,
     work: Work,
     times: u64,
     place: usize,
@@ -125,7 +128,7 @@ fn worked(
     shelf: Shelf,
 ) -> Shelf {
     let run = lent(work, times, place, shelf.get(place), key, grids);
-    tell(run, times);
+    tell(out, run, times);
     let answer = run.answer;
     let after = answer.sketch;
     shelf.with_sketch(place, after)
@@ -133,6 +136,7 @@ fn worked(
 
 // The columns are the word of this number, and the last.
 fn keyed(
+    out: &mut Answers<impl Print>,
     kind: Kind,
     work: Work,
     times: u64,
@@ -144,11 +148,12 @@ fn keyed(
     let mut key = [0u32; 128];
     let count = columns::taken(words::word(line, number), &mut key);
     if count == 0 {
-        usage::expected(kind);
+        usage::expected(out, kind);
         return shelf;
     }
     let place = slots::place(words::word(line, 1));
     worked(
+        out,
         work,
         times,
         place,
@@ -158,31 +163,51 @@ fn keyed(
     )
 }
 
-pub fn update(line: &[u8], grids: &mut [u8], shelf: Shelf) -> Shelf {
-    keyed(Kind::Update, Work::Update, 1, line, 2, grids, shelf)
+pub fn update(out: &mut Answers<impl Print>, line: &[u8], grids: &mut [u8], shelf: Shelf) -> Shelf {
+    keyed(out, Kind::Update, Work::Update, 1, line, 2, grids, shelf)
 }
 
-pub fn updates(line: &[u8], grids: &mut [u8], shelf: Shelf) -> Shelf {
+pub fn updates(
+    out: &mut Answers<impl Print>,
+    line: &[u8],
+    grids: &mut [u8],
+    shelf: Shelf,
+) -> Shelf {
     let times = numbers::at_most(words::word(line, 2), 1000000);
     let Found::Value(times) = times else {
-        usage::expected(Kind::Updates);
+        usage::expected(out, Kind::Updates);
         return shelf;
     };
     // No call would judge the key, and an `ok` would say that one did.
     if times == 0 {
-        usage::expected(Kind::Updates);
+        usage::expected(out, Kind::Updates);
         return shelf;
     }
-    keyed(Kind::Updates, Work::Update, times, line, 3, grids, shelf)
+    keyed(
+        out,
+        Kind::Updates,
+        Work::Update,
+        times,
+        line,
+        3,
+        grids,
+        shelf,
+    )
 }
 
-pub fn update_at(line: &[u8], grids: &mut [u8], shelf: Shelf) -> Shelf {
+pub fn update_at(
+    out: &mut Answers<impl Print>,
+    line: &[u8],
+    grids: &mut [u8],
+    shelf: Shelf,
+) -> Shelf {
     let found = numbers::number(words::word(line, 2));
     let Found::Value(time) = found else {
-        usage::expected(Kind::UpdateAt);
+        usage::expected(out, Kind::UpdateAt);
         return shelf;
     };
     keyed(
+        out,
         Kind::UpdateAt,
         Work::UpdateAt(time),
         1,
@@ -193,15 +218,21 @@ pub fn update_at(line: &[u8], grids: &mut [u8], shelf: Shelf) -> Shelf {
     )
 }
 
-pub fn advance(line: &[u8], grids: &mut [u8], shelf: Shelf) -> Shelf {
+pub fn advance(
+    out: &mut Answers<impl Print>,
+    line: &[u8],
+    grids: &mut [u8],
+    shelf: Shelf,
+) -> Shelf {
     let found = numbers::number(words::word(line, 2));
     let Found::Value(time) = found else {
-        usage::expected(Kind::Advance);
+        usage::expected(out, Kind::Advance);
         return shelf;
     };
     let none = [0u32; 1];
     let place = slots::place(words::word(line, 1));
     worked(
+        out,
         Work::Advance(time),
         1,
         place,

@@ -1,4 +1,5 @@
 // One sketch added to another.
+use crate::print::Answers;
 use crate::slots::{Shelf, Slot};
 use crate::{items, slots, usage, verdicts};
 use program_text::words;
@@ -37,28 +38,40 @@ fn merge_slots(
     )
 }
 
-pub fn merge(line: &[u8], grids: &mut [u8], room: &mut [u8], shelf: Shelf) -> Shelf {
+pub fn merge(
+    out: &mut Answers<impl Print>,
+    line: &[u8],
+    grids: &mut [u8],
+    room: &mut [u8],
+    shelf: Shelf,
+) -> Shelf {
     let place = slots::place(words::word(line, 1));
     let other = slots::place(words::word(line, 2));
     let its = shelf.get(other);
     if its.size == 0 {
-        usage::no_sketch(words::word(line, 2));
+        usage::no_sketch(out, words::word(line, 2));
         return shelf;
     }
     merged(
+        out,
         merge_slots(place, shelf.get(place), other, its, grids, room),
         place,
         shelf,
     )
 }
 
-fn merged(answer: SketchAnswer, place: usize, shelf: Shelf) -> Shelf {
+fn merged(
+    out: &mut Answers<impl Print>,
+    answer: SketchAnswer,
+    place: usize,
+    shelf: Shelf,
+) -> Shelf {
     let verdict = answer.verdict;
     let sketch = answer.sketch;
     if !verdict.accepted() {
-        verdicts::refused(verdict);
+        verdicts::refused(out, verdict);
         return shelf;
     }
-    items::tell_counted(sketch, answer.draws, answer.lost);
+    items::tell_counted(out, sketch, answer.draws, answer.lost);
     shelf.with_sketch(place, sketch)
 }

@@ -1,4 +1,5 @@
 // A cell as bars and a grid as a map of zooms. A pixel is never shown without its unit: it is no count.
+use crate::print::Answers;
 use crate::usage::Kind;
 use crate::{print, usage, verdicts};
 use cell::MicroParams;
@@ -10,10 +11,8 @@ use sketch::MicroCm;
 // The items that a full step of a pixel stands for: c^Z.
 fn unit(c: u32, zoom: u8) -> u64 {
     let mut power: u64 = 1;
-    let mut left = zoom;
-    while left > 0 {
+    for _ in 0..zoom {
         power = numbers::product(power, c as u64);
-        left -= 1;
     }
     power
 }
@@ -26,14 +25,12 @@ fn marks_of(pixel: u8) -> u8 {
     pixel / 8 + 1
 }
 
-fn bar(pixel: u8) {
-    let mut left = marks_of(pixel);
-    print::text(b" |");
-    while left > 0 {
-        print::text(b"#");
-        left -= 1;
+fn bar(out: &mut Answers<impl Print>, pixel: u8) {
+    print::text(out, b" |");
+    for _ in 0..marks_of(pixel) {
+        print::text(out, b"#");
     }
-    print::text(b"\n");
+    print::text(out, b"\n");
 }
 
 // The pixel that a sub-window uses.
@@ -45,31 +42,29 @@ fn slot_of(t: usize, n: u64) -> usize {
     (n % slots) as usize
 }
 
-fn sub_window(cell: &[u8], params: MicroParams, n: u64, unit: u64) {
+fn sub_window(out: &mut Answers<impl Print>, cell: &[u8], params: MicroParams, n: u64, unit: u64) {
     let pixel = words::get(cell, slot_of(params.t, n));
     let answer = cell_reading::scaled_pixel(cell, params, n);
     let items = floats::in_places(answer.items);
-    print::number(b"  n=", n);
-    print::number(b" pixel ", pixel as u64);
-    print::number(b" x ", unit);
-    print::number(b" = ", items.whole);
-    print::text(b" items");
-    bar(pixel);
+    print::number(out, b"  n=", n);
+    print::number(out, b" pixel ", pixel as u64);
+    print::number(out, b" x ", unit);
+    print::number(out, b" = ", items.whole);
+    print::text(out, b" items");
+    bar(out, pixel);
 }
 
 // The covered sub-windows, newest first: n back to n - t, where not negative.
-fn sub_windows(cell: &[u8], params: MicroParams, n: u64, unit: u64) {
-    let mut back: usize = 0;
+fn sub_windows(out: &mut Answers<impl Print>, cell: &[u8], params: MicroParams, n: u64, unit: u64) {
     let mut at = n;
-    while back < params.t {
-        sub_window(cell, params, at, unit);
+    for _ in 0..params.t {
+        sub_window(out, cell, params, at, unit);
         if at == 0 {
             return;
         }
         at -= 1;
-        back += 1;
     }
-    sub_window(cell, params, at, unit);
+    sub_window(out, cell, params, at, unit);
 }
 
 fn larger(a: u8, b: u8) -> u8 {
@@ -77,141 +72,162 @@ fn larger(a: u8, b: u8) -> u8 {
 }
 
 // How far the zoom falls when clearing is done, with this largest pixel (document 02, T-11).
-fn falls(most: u8, c: u32, zoom: u8) {
+fn falls(out: &mut Answers<impl Print>, most: u8, c: u32, zoom: u8) {
     let k = bench_tool_levels::levels(c, most, zoom);
     if k == 0 {
-        print::number(b" zooms in by 0, stays at zoom ", zoom as u64);
-        print::number(b" (largest pixel ", most as u64);
-        print::text(b")\n");
+        print::number(out, b" zooms in by 0, stays at zoom ", zoom as u64);
+        print::number(out, b" (largest pixel ", most as u64);
+        print::text(out, b")\n");
         return;
     }
     let times = unit(c, k);
-    print::number(b" zooms in by ", k as u64);
-    print::number(b", to zoom ", (zoom - k) as u64);
-    print::number(b" (largest pixel ", most as u64);
-    print::number(b" x ", times);
-    print::number(b" = ", numbers::product(most as u64, times));
-    print::text(b")\n");
+    print::number(out, b" zooms in by ", k as u64);
+    print::number(out, b", to zoom ", (zoom - k) as u64);
+    print::number(out, b" (largest pixel ", most as u64);
+    print::number(out, b" x ", times);
+    print::number(out, b" = ", numbers::product(most as u64, times));
+    print::text(out, b")\n");
 }
 
 // The shutter gives the newest pixel 1 more. A full pixel takes none: below the highest zoom the cell zooms out, and
 // what the other pixels become is drawn.
-fn falls_from_one_more(most: u8, newest: u8, c: u32, zoom: u8) {
+fn falls_from_one_more(out: &mut Answers<impl Print>, most: u8, newest: u8, c: u32, zoom: u8) {
     if newest < 255 {
-        falls(larger(most, newest + 1), c, zoom);
+        falls(out, larger(most, newest + 1), c, zoom);
         return;
     }
     let highest = cell_reading::max_zoom(c);
     if zoom < highest.zoom {
         print::number(
+            out,
             b" the newest pixel is full: zooms out to ",
             std::num::wrapping_add_u64(zoom as u64, 1),
         );
-        print::text(b" first, and in again by 1 at most\n");
+        print::text(out, b" first, and in again by 1 at most\n");
         return;
     }
-    print::text(b" the newest pixel is full, its unit is lost;");
-    falls(most, c, zoom);
+    print::text(out, b" the newest pixel is full, its unit is lost;");
+    falls(out, most, c, zoom);
 }
 
 // What the next crossing, by 1, makes of the zoom: the shutter is closed, to 0 or to 1, and the stale slot cleared.
-fn next_crossing(cell: &[u8], params: MicroParams, n: u64, stale: usize, zoom: u8, shutter: u32) {
+fn next_crossing(
+    out: &mut Answers<impl Print>,
+    cell: &[u8],
+    params: MicroParams,
+    n: u64,
+    stale: usize,
+    zoom: u8,
+    shutter: u32,
+) {
     if n == 0xFFFF_FFFF_FFFF_FFFF {
-        print::text(b"  next crossing: none, n is the last\n");
+        print::text(out, b"  next crossing: none, n is the last\n");
         return;
     }
     let pixels = std::num::wrapping_add_usize(params.t, 2);
     let most = bench_tool_levels::largest_left(words::part(cell, 0, pixels), stale);
-    print::number(b"  next crossing, by 1: clears slot ", stale as u64);
+    print::number(out, b"  next crossing, by 1: clears slot ", stale as u64);
     if shutter == 0 {
-        print::text(b";");
-        falls(most, params.c, zoom);
+        print::text(out, b";");
+        falls(out, most, params.c, zoom);
         return;
     }
-    print::text(b"\n    shutter closed to 0:");
-    falls(most, params.c, zoom);
-    print::text(b"    shutter closed to 1:");
-    falls_from_one_more(most, words::get(cell, slot_of(params.t, n)), params.c, zoom);
+    print::text(out, b"\n    shutter closed to 0:");
+    falls(out, most, params.c, zoom);
+    print::text(out, b"    shutter closed to 1:");
+    falls_from_one_more(
+        out,
+        most,
+        words::get(cell, slot_of(params.t, n)),
+        params.c,
+        zoom,
+    );
 }
 
 // A pixel that can take no unit more, as the cell cannot zoom out (document 02, T-04).
-fn tell_full(cell: &[u8], params: MicroParams, n: u64, zoom: u8) {
+fn tell_full(out: &mut Answers<impl Print>, cell: &[u8], params: MicroParams, n: u64, zoom: u8) {
     let highest = cell_reading::max_zoom(params.c);
     if words::get(cell, slot_of(params.t, n)) < 255 || zoom < highest.zoom {
         return;
     }
-    print::number(b"  full at max_zoom: the next unit for n=", n);
-    print::text(b" is lost\n");
+    print::number(out, b"  full at max_zoom: the next unit for n=", n);
+    print::text(out, b" is lost\n");
 }
 
-fn draw(cell: &[u8], params: MicroParams, n: u64) {
+fn draw(out: &mut Answers<impl Print>, cell: &[u8], params: MicroParams, n: u64) {
     let zoom = cell_reading::zoom(cell, params);
     let shutter = cell_reading::shutter(cell, params);
     let unit = unit(params.c, zoom.zoom);
-    print::number(b"ok n=", n);
-    print::number(b" zoom=", zoom.zoom as u64);
-    print::number(b" base=", params.c as u64);
-    print::number(b" unit=", unit);
-    print::number(b" shutter=", shutter.shutter as u64);
-    print::text(b"\n");
-    sub_windows(cell, params, n, unit);
-    print::number(b"  shutter: ", shutter.shutter as u64);
-    print::number(b" of ", unit);
-    print::text(b" items towards the next step of the newest pixel\n");
-    tell_full(cell, params, n, zoom.zoom);
+    print::number(out, b"ok n=", n);
+    print::number(out, b" zoom=", zoom.zoom as u64);
+    print::number(out, b" base=", params.c as u64);
+    print::number(out, b" unit=", unit);
+    print::number(out, b" shutter=", shutter.shutter as u64);
+    print::text(out, b"\n");
+    sub_windows(out, cell, params, n, unit);
+    print::number(out, b"  shutter: ", shutter.shutter as u64);
+    print::number(out, b" of ", unit);
+    print::text(out, b" items towards the next step of the newest pixel\n");
+    tell_full(out, cell, params, n, zoom.zoom);
     // The slot behind the newest one's.
     let newest = slot_of(params.t, n) as u64;
     let stale = slot_of(params.t, std::num::wrapping_add_u64(newest, 1));
-    print::number(b"  stale: slot ", stale as u64);
-    print::number(b", pixel ", words::get(cell, stale) as u64);
-    print::text(b", in no figure\n");
-    next_crossing(cell, params, n, stale, zoom.zoom, shutter.shutter);
+    print::number(out, b"  stale: slot ", stale as u64);
+    print::number(out, b", pixel ", words::get(cell, stale) as u64);
+    print::text(out, b", in no figure\n");
+    next_crossing(out, cell, params, n, stale, zoom.zoom, shutter.shutter);
 }
 
 // The call on one cell knows no other index than 0; here it is told as the calls on the grid tell it.
-fn unsound(sketch: MicroCm, row: usize, col: usize, cell: &[u8]) {
+fn unsound(out: &mut Answers<impl Print>, sketch: MicroCm, row: usize, col: usize, cell: &[u8]) {
     let before = numbers::product(row as u64, sketch.cols as u64);
     let index = std::num::wrapping_add_u64(before, col as u64);
-    verdicts::begin(Verdict::Unsound(index as usize));
-    print::text(b"; its bytes: ");
-    print::bytes(cell);
-    print::text(b"\n");
+    verdicts::begin(out, Verdict::Unsound(index as usize));
+    print::text(out, b"; its bytes: ");
+    print::bytes(out, cell);
+    print::text(out, b"\n");
 }
 
-fn draw_judged(sketch: MicroCm, row: usize, col: usize, grid: &[u8]) {
+fn draw_judged(
+    out: &mut Answers<impl Print>,
+    sketch: MicroCm,
+    row: usize,
+    col: usize,
+    grid: &[u8],
+) {
     let params = sketch.params;
     let clock = sketch.clock;
     let cell = sketch_queries::bucket_slice(sketch, row, col, grid);
     let verdict = cell_reading::judge(cell, params);
     if !verdict.accepted() {
-        unsound(sketch, row, col, cell);
+        unsound(out, sketch, row, col, cell);
         return;
     }
     let now = clock_calls::n(clock);
-    draw(cell, params, now.n);
+    draw(out, cell, params, now.n);
 }
 
-fn draw_at(sketch: MicroCm, row: usize, col: usize, grid: &[u8]) {
+fn draw_at(out: &mut Answers<impl Print>, sketch: MicroCm, row: usize, col: usize, grid: &[u8]) {
     let verdict = sketch_queries::bucket_check(sketch, row, col, grid);
     if !verdict.accepted() {
-        verdicts::refused(verdict);
+        verdicts::refused(out, verdict);
         return;
     }
-    draw_judged(sketch, row, col, grid);
+    draw_judged(out, sketch, row, col, grid);
 }
 
-pub fn one_cell(line: &[u8], sketch: MicroCm, grid: &[u8]) {
+pub fn one_cell(out: &mut Answers<impl Print>, line: &[u8], sketch: MicroCm, grid: &[u8]) {
     let row = numbers::number(words::word(line, 2));
     let col = numbers::number(words::word(line, 3));
     let Found::Value(row) = row else {
-        usage::expected(Kind::Cell);
+        usage::expected(out, Kind::Cell);
         return;
     };
     let Found::Value(col) = col else {
-        usage::expected(Kind::Cell);
+        usage::expected(out, Kind::Cell);
         return;
     };
-    draw_at(sketch, row as usize, col as usize, grid);
+    draw_at(out, sketch, row as usize, col as usize, grid);
 }
 
 // What a cell's place on the map shows: its zoom, and 99 if it is unsound.
@@ -229,11 +245,9 @@ pub fn zoom_at(sketch: MicroCm, row: usize, col: usize, grid: &[u8]) -> u8 {
 fn highest(sketch: MicroCm, row: usize, from: usize, count: usize, grid: &[u8]) -> u8 {
     let mut zoom: u8 = 0;
     let mut col = from;
-    let mut left = count;
-    while left > 0 {
+    for _ in 0..count {
         zoom = larger(zoom, zoom_at(sketch, row, col, grid));
         col = std::num::wrapping_add_usize(col, 1);
-        left -= 1;
     }
     zoom
 }
@@ -251,32 +265,35 @@ fn glyph(zoom: u8) -> u8 {
     b'!'
 }
 
-fn mark(sketch: MicroCm, row: usize, from: usize, count: usize, grid: &[u8]) {
-    print::text(&[glyph(highest(sketch, row, from, count, grid))]);
+fn mark(
+    out: &mut Answers<impl Print>,
+    sketch: MicroCm,
+    row: usize,
+    from: usize,
+    count: usize,
+    grid: &[u8],
+) {
+    print::text(out, &[glyph(highest(sketch, row, from, count, grid))]);
 }
 
-fn marks(sketch: MicroCm, row: usize, group: usize, grid: &[u8]) {
+fn marks(out: &mut Answers<impl Print>, sketch: MicroCm, row: usize, group: usize, grid: &[u8]) {
     let mut from: usize = 0;
-    let mut left = places_of(sketch.cols);
-    while left > 0 {
-        mark(sketch, row, from, group, grid);
+    for _ in 0..places_of(sketch.cols) {
+        mark(out, sketch, row, from, group, grid);
         from = std::num::wrapping_add_usize(from, group);
-        left -= 1;
     }
 }
 
-fn map_row(sketch: MicroCm, row: usize, group: usize, grid: &[u8]) {
-    print::number(b"  row ", row as u64);
-    print::text(b" |");
-    marks(sketch, row, group, grid);
-    print::text(b"|\n");
+fn map_row(out: &mut Answers<impl Print>, sketch: MicroCm, row: usize, group: usize, grid: &[u8]) {
+    print::number(out, b"  row ", row as u64);
+    print::text(out, b" |");
+    marks(out, sketch, row, group, grid);
+    print::text(out, b"|\n");
 }
 
-fn map_rows(sketch: MicroCm, group: usize, grid: &[u8]) {
-    let mut row: usize = 0;
-    while row < sketch.rows {
-        map_row(sketch, row, group, grid);
-        row += 1;
+fn map_rows(out: &mut Answers<impl Print>, sketch: MicroCm, group: usize, grid: &[u8]) {
+    for row in 0..sketch.rows {
+        map_row(out, sketch, row, group, grid);
     }
 }
 
@@ -296,16 +313,19 @@ fn group_of(cols: usize) -> usize {
     1
 }
 
-pub fn map(sketch: MicroCm, grid: &[u8]) {
+pub fn map(out: &mut Answers<impl Print>, sketch: MicroCm, grid: &[u8]) {
     let verdict = sketch_queries::bucket_check(sketch, 0, 0, grid);
     if !verdict.accepted() {
-        verdicts::refused(verdict);
+        verdicts::refused(out, verdict);
         return;
     }
     let group = group_of(sketch.cols);
-    print::number(b"ok rows=", sketch.rows as u64);
-    print::number(b" cols=", sketch.cols as u64);
-    print::number(b" columns_a_mark=", group as u64);
-    print::text(b" (highest zoom: . is 0, 1 to 9, a to v are 10 to 31, ! an unsound cell)\n");
-    map_rows(sketch, group, grid);
+    print::number(out, b"ok rows=", sketch.rows as u64);
+    print::number(out, b" cols=", sketch.cols as u64);
+    print::number(out, b" columns_a_mark=", group as u64);
+    print::text(
+        out,
+        b" (highest zoom: . is 0, 1 to 9, a to v are 10 to 31, ! an unsound cell)\n",
+    );
+    map_rows(out, sketch, group, grid);
 }

@@ -1,33 +1,34 @@
 // What a sketch says of a key.
+use crate::print::Answers;
 use crate::usage::Kind;
 use crate::{pictures, print, usage, verdicts};
 use program_text::numbers::Found;
 use program_text::{columns, floats, numbers, words};
 use sketch::{MicroCm, ReadingAnswer};
 
-fn thousandths(n: u64) {
+fn thousandths(out: &mut Answers<impl Print>, n: u64) {
     if n < 100 {
-        print::text(b"0");
+        print::text(out, b"0");
     }
     if n < 10 {
-        print::text(b"0");
+        print::text(out, b"0");
     }
-    print::number(b"", n);
+    print::number(out, b"", n);
 }
 
 // The four f64 by their bits, then the figures for people.
-fn tell_reading(answer: ReadingAnswer) {
+fn tell_reading(out: &mut Answers<impl Print>, answer: ReadingAnswer) {
     let reading = answer.reading;
-    print::hex(b"ok over=", floats::bits(reading.over));
-    print::hex(b" under=", floats::bits(reading.under));
-    print::hex(b" linear=", floats::bits(reading.linear));
-    print::hex(b" fraction=", floats::bits(reading.fraction));
-    print::number(b" over_items=", answer.over);
-    print::number(b" under_items=", answer.under);
+    print::hex(out, b"ok over=", floats::bits(reading.over));
+    print::hex(out, b" under=", floats::bits(reading.under));
+    print::hex(out, b" linear=", floats::bits(reading.linear));
+    print::hex(out, b" fraction=", floats::bits(reading.fraction));
+    print::number(out, b" over_items=", answer.over);
+    print::number(out, b" under_items=", answer.under);
     let linear = floats::in_places(reading.linear);
-    print::number(b" linear_items=", linear.whole);
-    print::text(b".");
-    thousandths(linear.thousandths);
+    print::number(out, b" linear_items=", linear.whole);
+    print::text(out, b".");
+    thousandths(out, linear.thousandths);
 }
 
 // How many sub-windows Over covers: the k of the band.
@@ -42,45 +43,56 @@ fn covered(sketch: MicroCm) -> u64 {
     std::num::wrapping_add_u64(t, 1)
 }
 
-fn tell_zoom(sketch: MicroCm, grid: &[u8], row: usize, col: u32) {
+fn tell_zoom(out: &mut Answers<impl Print>, sketch: MicroCm, grid: &[u8], row: usize, col: u32) {
     if row > 0 {
-        print::text(b",");
+        print::text(out, b",");
     }
     let zoom = pictures::zoom_at(sketch, row, col as usize, grid);
-    print::number(b"", zoom as u64);
+    print::number(out, b"", zoom as u64);
 }
 
-fn tell_zooms(sketch: MicroCm, grid: &[u8], key: &[u32]) {
-    let mut row: usize = 0;
-    while row < key.len() {
-        tell_zoom(sketch, grid, row, key[row]);
-        row += 1;
+fn tell_zooms(out: &mut Answers<impl Print>, sketch: MicroCm, grid: &[u8], key: &[u32]) {
+    for (row, col) in key.iter().enumerate() {
+        tell_zoom(out, sketch, grid, row, *col);
     }
 }
 
-fn told(sketch: MicroCm, grid: &[u8], key: &[u32], answer: ReadingAnswer) {
+fn told(
+    out: &mut Answers<impl Print>,
+    sketch: MicroCm,
+    grid: &[u8],
+    key: &[u32],
+    answer: ReadingAnswer,
+) {
     let verdict = answer.verdict;
     if !verdict.accepted() {
-        verdicts::refused(verdict);
+        verdicts::refused(out, verdict);
         return;
     }
-    tell_reading(answer);
+    tell_reading(out, answer);
     let mean = sketch_reading::mean(sketch, key, grid);
-    print::number(b" mean=", mean.mean);
-    print::number(b" k=", covered(sketch));
-    print::text(b" zooms=");
-    tell_zooms(sketch, grid, key);
-    print::text(b"\n");
+    print::number(out, b" mean=", mean.mean);
+    print::number(out, b" k=", covered(sketch));
+    print::text(out, b" zooms=");
+    tell_zooms(out, sketch, grid, key);
+    print::text(out, b"\n");
 }
 
-fn read_with(sketch: MicroCm, grid: &[u8], key: &[u32], word: &[u8]) {
+fn read_with(
+    out: &mut Answers<impl Print>,
+    sketch: MicroCm,
+    grid: &[u8],
+    key: &[u32],
+    word: &[u8],
+) {
     let found = numbers::bits(word);
     let Found::Value(bits) = found else {
-        usage::expected(Kind::Read);
+        usage::expected(out, Kind::Read);
         return;
     };
     let fraction = floats::of_bits(bits);
     told(
+        out,
         sketch,
         grid,
         key,
@@ -88,12 +100,13 @@ fn read_with(sketch: MicroCm, grid: &[u8], key: &[u32], word: &[u8]) {
     );
 }
 
-fn read_key(sketch: MicroCm, grid: &[u8], key: &[u32], line: &[u8]) {
+fn read_key(out: &mut Answers<impl Print>, sketch: MicroCm, grid: &[u8], key: &[u32], line: &[u8]) {
     if words::count(line) == 4 {
-        read_with(sketch, grid, key, words::word(line, 3));
+        read_with(out, sketch, grid, key, words::word(line, 3));
         return;
     }
     told(
+        out,
         sketch,
         grid,
         key,
@@ -101,32 +114,39 @@ fn read_key(sketch: MicroCm, grid: &[u8], key: &[u32], line: &[u8]) {
     );
 }
 
-fn mean_of(sketch: MicroCm, grid: &[u8], key: &[u32]) {
+fn mean_of(out: &mut Answers<impl Print>, sketch: MicroCm, grid: &[u8], key: &[u32]) {
     let answer = sketch_reading::mean(sketch, key, grid);
     let verdict = answer.verdict;
     if !verdict.accepted() {
-        verdicts::refused(verdict);
+        verdicts::refused(out, verdict);
         return;
     }
-    print::number(b"ok mean=", answer.mean);
-    print::text(b"\n");
+    print::number(out, b"ok mean=", answer.mean);
+    print::text(out, b"\n");
 }
 
-fn keyed(kind: Kind, line: &[u8], sketch: MicroCm, grid: &[u8], key: &[u32]) {
+fn keyed(
+    out: &mut Answers<impl Print>,
+    kind: Kind,
+    line: &[u8],
+    sketch: MicroCm,
+    grid: &[u8],
+    key: &[u32],
+) {
     if let Kind::Mean = kind {
-        mean_of(sketch, grid, key);
+        mean_of(out, sketch, grid, key);
         return;
     }
-    read_key(sketch, grid, key, line);
+    read_key(out, sketch, grid, key, line);
 }
 
 // `read` or `mean`.
-pub fn tell(kind: Kind, line: &[u8], sketch: MicroCm, grid: &[u8]) {
+pub fn tell(out: &mut Answers<impl Print>, kind: Kind, line: &[u8], sketch: MicroCm, grid: &[u8]) {
     let mut key = [0u32; 128];
     let count = columns::taken(words::word(line, 2), &mut key);
     if count == 0 {
-        usage::expected(kind);
+        usage::expected(out, kind);
         return;
     }
-    keyed(kind, line, sketch, grid, columns::first(&key, count));
+    keyed(out, kind, line, sketch, grid, columns::first(&key, count));
 }

@@ -11,14 +11,14 @@ use sketch::MicroCm;
 pub const LIMIT: usize = 1048576;
 
 // A sketch, its watched codes and the bytes of its grid: 0 where no sketch is.
-#[derive(Drop)]
+#[derive(Clone, Copy)]
 pub struct Slot {
     pub sketch: MicroCm,
     pub watch: Watch,
     pub size: usize,
 }
 
-#[derive(Drop)]
+#[derive(Clone, Copy)]
 pub struct Shelf {
     a: Slot,
     b: Slot,
@@ -42,7 +42,7 @@ pub fn place(word: &[u8]) -> usize {
 }
 
 // From where to where a place's part stands among the parts of all.
-#[derive(Drop)]
+#[derive(Clone, Copy)]
 pub struct Span {
     pub from: usize,
     pub to: usize,

@@ -2,7 +2,7 @@
 use crate::numbers::Found;
 use crate::{numbers, words};
 
-#[derive(Drop)]
+#[derive(Clone, Copy)]
 struct Progress {
     // Where the next column starts.
     at: usize,
@@ -43,10 +43,11 @@ pub fn taken(word: &[u8], key: &mut [u32]) -> usize {
         good: true,
         more: true,
     };
-    let mut left: usize = key.len();
-    while left > 0 && taken.more {
+    for _ in 0..key.len() {
+        if !taken.more {
+            break;
+        }
         taken = next(word, key, taken);
-        left -= 1;
     }
     if taken.more {
         return 0;
@@ -83,9 +84,7 @@ pub fn first(key: &[u32], count: usize) -> &[u32] {
 
 // As many of the columns as there is room for.
 pub fn copy(to: &mut [u32], from: &[u32]) {
-    let mut i: usize = 0;
-    while i < from.len() && i < to.len() {
-        to[i] = from[i];
-        i += 1;
+    for (place, value) in to.iter_mut().zip(from) {
+        *place = *value;
     }
 }

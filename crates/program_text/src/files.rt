@@ -1,100 +1,136 @@
-// Whole files: one is replaced so that no failure leaves a part of it, and one is read to its end.
-use crate::words;
+// Whole files: one is replaced so that no failure leaves a part of it, and one is read to its end. A name is UTF-8 text; any
+// other is no file's.
+ghost use Rattle.std.specs.Prelude.{◌≤◌, length};
+
+use std::fs::{File, OpenFile, OpenOptions};
+use std::io::{Error, ErrorKind, Read, Write};
+use std::rt::Files;
+use std::{fs, io, str};
+
+// As many names are tried for a new file beside another.
+const NAMES: u32 = 1_000_000;
+
+// The name of a file, as the library takes it.
+fn path(name: &[u8]) -> io::Result<&str> {
+    match str::from_utf8(name) {
+        Ok(path) => Ok(path),
+        Err(_) => Err(Error::from(ErrorKind::InvalidInput)),
+    }
+}
 
 // Whether the name is free or a file's. What cannot be synced is a device or a pipe, and no file to replace.
-fn replaceable(name: &[u8]) -> bool {
-    let fd = os::open_update(name);
-    if fd < 0 {
-        return os::errno() == libc::ENOENT;
+fn replaceable<R: Files>(rt: &R, name: &str) -> bool {
+    match OpenOptions::new().read(true).write(true).open(rt, name) {
+        Ok(file) => file.sync_all().is_ok(),
+        Err(e) => e.kind() == ErrorKind::NotFound,
     }
-    let synced = libc::fsync(fd) == 0;
-    libc::close(fd);
-    synced
 }
 
-// A name that no file has, in place of the X's at its end. The library makes a file of it that only its owner may read,
-// whatever the user set for new files: so no more than its name is taken.
-fn named_anew(name: &mut [u8]) -> bool {
-    let fd = os::create_temp(name);
-    if fd < 0 {
-        return false;
+// A name that no file has: this one, a dot and six digits.
+fn named_anew<R: Files + Alloc>(rt: &R, name: &str) -> io::Result<String<R::A>> {
+    for turn in 0..NAMES {
+        let beside = format!(in rt.alloc(); "{name}.{turn:06}")?;
+        match fs::symlink_metadata(rt, beside.as_str()) {
+            Ok(_) => {}
+            Err(e) if e.kind() == ErrorKind::NotFound => return Ok(beside),
+            Err(e) => return Err(e),
+        }
     }
-    libc::close(fd);
-    os::unlink(&name[..]) == 0
+    Err(Error::from(ErrorKind::AlreadyExists))
 }
 
-// All bytes into the file and on to its device: a failed close too can mean that bytes are lost.
-fn write_out(fd: i32, bytes: &[u8]) -> bool {
-    let written = io::write_all(fd, bytes);
-    let synced = libc::fsync(fd) == 0;
-    let closed = libc::close(fd) == 0;
-    written && synced && closed
+// All bytes into the file and on to its device. It is closed at the end.
+fn write_out<F: Write + OpenFile + Drop>(file: F, bytes: &[u8]) -> io::Result<()> {
+    let mut file = file;
+    file.write_all(bytes)?;
+    file.sync_all()
 }
 
 // A new file takes the name once it is whole: whatever fails before, the file that had the name is there as it was.
-fn replace(name: &[u8], beside: &[u8], bytes: &[u8]) -> bool {
-    let fd = os::create(beside);
-    if fd < 0 {
-        return false;
-    }
-    if write_out(fd, bytes) {
-        if os::rename(beside, name) == 0 {
-            return true;
-        }
-    }
-    os::unlink(beside);
-    false
+fn replace<R: Files>(
+    rt: &R,
+    name: &str,
+    file: R::File,
+    beside: &str,
+    bytes: &[u8],
+) -> io::Result<()> {
+    write_out(file, bytes)?;
+    fs::rename(rt, beside, name)
 }
 
-fn replace_by(name: &[u8], beside: &mut [u8], bytes: &[u8]) -> bool {
-    if named_anew(beside) {
-        return replace(name, &beside[..], bytes);
+// Where that fails nothing is left beside it.
+fn replace_by<R: Files>(rt: &R, name: &str, beside: &str, bytes: &[u8]) -> io::Result<()> {
+    let file = File::create_new(rt, beside)?;
+    let replaced = replace(rt, name, file, beside, bytes);
+    if replaced.is_err() {
+        let _ = fs::remove_file(rt, beside);
     }
-    false
+    replaced
 }
 
 // The new file stands beside the old one: a file can change its name only on its own device.
-fn write_beside(name: &[u8], room: &mut [u8], bytes: &[u8]) -> bool {
-    let end = words::put(room, 0, name);
-    let all = words::put(room, end, b".XXXXXX");
-    if room.len() < all {
-        return false;
-    }
-    replace_by(name, &mut room[0..all], bytes)
+fn write_beside<R: Files + Alloc>(rt: &R, name: &str, bytes: &[u8]) -> io::Result<()> {
+    let beside = named_anew(rt, name)?;
+    replace_by(rt, name, beside.as_str(), bytes)
 }
 
-// Whether all these bytes are now the file of this name, and on its device.
-pub fn write(name: &[u8], bytes: &[u8]) -> bool {
-    let mut room = io::buffer();
-    if replaceable(name) {
-        return write_beside(name, &mut room, bytes);
+// All these bytes are now the file of this name, and on its device; or else the file is as it was.
+pub fn write<R: Files + Alloc>(rt: &R, name: &[u8], bytes: &[u8]) -> io::Result<()> {
+    let name = path(name)?;
+    if replaceable(rt, name) {
+        return write_beside(rt, name, bytes);
     }
-    false
+    Err(Error::from(ErrorKind::PermissionDenied))
 }
 
 // What was read of a file, and whether it ended there.
-#[derive(Drop)]
+#[derive(Clone, Copy)]
 pub struct Taken {
     pub count: usize,
     pub whole: bool,
 }
 
-// A read that fails, as of a directory, stops `read_full` as the end does; then one more read does not give 0.
-fn at_end(fd: i32) -> bool {
-    let mut more = [0u8; 1];
-    libc::read(fd, &mut more) == 0
+// Reads until the room is full, the file ends or a read fails, and gives how many bytes now stand at the start of the room.
+pub fn read_full<F: Read>(file: &mut F, room: &mut [u8]) -> usize
+    ensures { result ≤ length room.new }
+{
+    let mut count = 0usize;
+    while count < room.len() {
+        let Ok(got) = file.read(&mut room[count..]) else {
+            return count;
+        };
+        if got == 0 {
+            return count;
+        }
+        count += got;
+    }
+    count
 }
 
-pub fn read(name: &[u8], room: &mut [u8]) -> Taken {
-    let fd = os::open_read(name);
-    if fd < 0 {
+// A read that fails, as of a directory, stops `read_full` as the end does; then one more read does not give 0.
+fn at_end<F: Read>(file: &mut F) -> bool {
+    let mut more = [0u8; 1];
+    match file.read(&mut more) {
+        Ok(got) => got == 0,
+        Err(_) => false,
+    }
+}
+
+pub fn read<R: Files>(rt: &R, name: &[u8], room: &mut [u8]) -> Taken {
+    let Ok(name) = path(name) else {
         return Taken {
             count: 0,
             whole: false,
         };
-    }
-    let count = io::read_full(fd, room);
-    let whole = at_end(fd);
-    libc::close(fd);
+    };
+    let Ok(file) = File::open(rt, name) else {
+        return Taken {
+            count: 0,
+            whole: false,
+        };
+    };
+    let mut file = file;
+    let count = read_full(&mut file, room);
+    let whole = at_end(&mut file);
     Taken { count, whole }
 }

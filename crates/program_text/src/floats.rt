@@ -11,7 +11,7 @@ const SIGN: u64 = 0x8000_0000_0000_0000;
 const HIDDEN: u64 = 0x0010_0000_0000_0000;
 
 // A whole number and the thousandths beside it.
-#[derive(Drop)]
+#[derive(Clone, Copy)]
 pub struct Places {
     pub whole: u64,
     pub thousandths: u64,

@@ -33,9 +33,7 @@ pub fn part(limits: &[u64], from: usize, to: usize) -> &[u64] {
 
 // As many of the limits as there is room for.
 pub fn copy(to: &mut [u64], from: &[u64]) {
-    let mut i: usize = 0;
-    while i < from.len() && i < to.len() {
-        to[i] = from[i];
-        i += 1;
+    for (place, value) in to.iter_mut().zip(from) {
+        *place = *value;
     }
 }

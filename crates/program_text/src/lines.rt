@@ -1,9 +1,10 @@
-// Lines from standard input. A buffer is lent that holds what was read and not used yet; a line that does not fit it is turned back.
+// Lines from a reader, as standard input. A buffer is lent that holds what was read and not used yet; a line that does not fit it is turned back.
 use crate::words;
-use libc::STDIN_FILENO;
+use std::io;
+use std::io::Read;
 
 // What the buffer has come to.
-#[derive(Drop)]
+#[derive(Clone, Copy)]
 pub enum Seen {
     // A line.
     Line,
@@ -15,7 +16,7 @@ pub enum Seen {
     Part,
 }
 
-#[derive(Drop)]
+#[derive(Clone, Copy)]
 pub struct Lines {
     // What is left to use of the buffer stands from `from` to `to`.
     from: usize,
@@ -45,18 +46,18 @@ fn kept(from: usize, to: usize, skipping: bool) -> Lines {
 }
 
 // The next line if a whole one is there, else room in the buffer or more of the input in it.
-pub fn next(buffer: &mut [u8], lines: Lines) -> Lines {
+pub fn next<I: Read>(input: &mut I, buffer: &mut [u8], lines: Lines) -> io::Result<Lines> {
     let end = words::find(buffer, lines.from, lines.to, b'\n');
     if end < lines.to {
-        return line(lines, end, Seen::Line);
+        return Ok(line(lines, end, Seen::Line));
     }
     if lines.from > 0 {
-        return moved_down(buffer, lines);
+        return Ok(moved_down(buffer, lines));
     }
     if lines.to >= buffer.len() {
-        return too_long(lines);
+        return Ok(too_long(lines));
     }
-    refilled(buffer, lines)
+    refilled(input, buffer, lines)
 }
 
 // The rest of a line that was turned back is no line of its own: an empty one stands for it.
@@ -105,26 +106,25 @@ fn too_long(lines: Lines) -> Lines {
 }
 
 // More of the input behind what is there. The last line may have no line end.
-fn refilled(buffer: &mut [u8], lines: Lines) -> Lines {
-    let got = read_behind(buffer, lines.to);
+fn refilled<I: Read>(input: &mut I, buffer: &mut [u8], lines: Lines) -> io::Result<Lines> {
+    let got = read_behind(input, buffer, lines.to)?;
     if got > 0 {
-        return kept(
+        return Ok(kept(
             0,
             std::num::wrapping_add_usize(lines.to, got),
             lines.skipping,
-        );
+        ));
     }
-    line(lines, lines.to, Seen::Last)
+    Ok(line(lines, lines.to, Seen::Last))
 }
 
-fn read_behind(buffer: &mut [u8], to: usize) -> usize {
+fn read_behind<I: Read>(input: &mut I, buffer: &mut [u8], to: usize) -> io::Result<usize> {
     if to <= buffer.len() {
-        return read_into(&mut buffer[to..]);
+        return read_into(input, &mut buffer[to..]);
     }
-    0
+    Ok(0)
 }
 
-fn read_into(room: &mut [u8]) -> usize {
-    let got = libc::read(STDIN_FILENO, room);
-    io::count(got, room)
+fn read_into<I: Read>(input: &mut I, room: &mut [u8]) -> io::Result<usize> {
+    input.read(room)
 }

@@ -3,7 +3,7 @@
 use crate::{columns, limits, numbers, words};
 
 // How much of a line was taken.
-#[derive(Drop)]
+#[derive(Clone, Copy)]
 pub struct List {
     // Where the next word starts.
     at: usize,
@@ -48,10 +48,11 @@ fn before(line: &[u8]) -> List {
 pub fn taken(line: &[u8], columns: &mut [u32], limits: &mut [u64]) -> List {
     let mut list = before(line);
     // A word has a byte at least, so the words end before these turns do.
-    let mut left: usize = line.len();
-    while left > 0 && list.more {
+    for _ in 0..line.len() {
+        if !list.more {
+            break;
+        }
         list = next(line, columns, limits, list);
-        left -= 1;
     }
     list
 }

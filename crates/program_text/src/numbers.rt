@@ -1,7 +1,7 @@
 // Numbers in words, decimal or 0x, and bytes in hexadecimal digits.
 use crate::words;
 
-#[derive(Drop)]
+#[derive(Clone, Copy)]
 pub enum Found {
     Value(u64),
     // No number, or one past 2^64 - 1.
@@ -72,10 +72,8 @@ fn digits(word: &[u8], from: usize, hex: bool) -> Found {
         return Found::Nothing;
     }
     let mut value = Found::Value(0);
-    let mut at = from;
-    while at < word.len() {
-        value = with_digit(value, hex, word[at]);
-        at += 1;
+    for byte in &word[from..] {
+        value = with_digit(value, hex, *byte);
     }
     value
 }
@@ -130,14 +128,10 @@ fn is_number(line: &[u8], place: usize) -> bool {
 
 // Whether the words from the one of this number on, `count` of them, are numbers.
 pub fn all_numbers(line: &[u8], from: usize, count: usize) -> bool {
-    let mut place = from;
-    let mut left = count;
-    while left > 0 {
-        if !is_number(line, place) {
+    for place in 0..count {
+        if !is_number(line, std::num::wrapping_add_usize(from, place)) {
             return false;
         }
-        place = std::num::wrapping_add_usize(place, 1);
-        left -= 1;
     }
     true
 }
@@ -171,30 +165,34 @@ fn byte_at(word: &[u8], at: usize) -> u8 {
 // Writes the decimal digits of a number at a place of a line, and gives the place behind them.
 pub fn put(line: &mut [u8], at: usize, n: u64) -> usize {
     let mut digits = [0u8; 20];
-    let count = io::decimal(n, &mut digits);
-    words::put(line, at, &digits[..count])
+    let mut start: usize = 20;
+    let mut left = n;
+    for place in (0..20usize).rev() {
+        words::set(&mut digits, place, b'0' + (left % 10) as u8);
+        start = place;
+        left /= 10;
+        if left == 0 {
+            break;
+        }
+    }
+    words::put(line, at, words::part(&digits, start, 20))
 }
 
 // Whether every byte of a word is a hexadecimal digit.
 pub fn all_hex(word: &[u8]) -> bool {
-    let mut at: usize = 0;
-    while at < word.len() {
-        if digit(word[at]) > 15 {
+    for byte in word {
+        if digit(*byte) > 15 {
             return false;
         }
-        at += 1;
     }
     true
 }
 
 // The bytes whose digits a word has.
 pub fn fill(bytes: &mut [u8], word: &[u8]) {
-    let count = bytes.len();
-    let mut at: usize = 0;
     let mut place: usize = 0;
-    while at < count {
-        words::set(bytes, at, byte_at(word, place));
-        at += 1;
+    for byte in bytes {
+        *byte = byte_at(word, place);
         place = std::num::wrapping_add_usize(place, 2);
     }
 }

@@ -1,27 +1,23 @@
-// Words and numbers on standard output. Each answers whether it could be written.
+// Words and numbers on standard output.
 ghost use Rattle.std.specs.Prelude.{◌<◌, ◌≤◌};
 
 use crate::words;
-use libc::STDOUT_FILENO;
+use std::io;
 
-pub fn text(words: &[u8]) -> bool {
-    io::write_all(STDOUT_FILENO, words)
+pub fn text(rt: &impl Print, words: &[u8]) -> io::Result<()> {
+    rt.write_all(words)
 }
 
 // A number, and the words before it.
-pub fn number(before: &[u8], n: u64) -> bool {
-    if text(before) {
-        return io::print_decimal(STDOUT_FILENO, n);
-    }
-    false
+pub fn number(rt: &impl Print, before: &[u8], n: u64) -> io::Result<()> {
+    text(rt, before)?;
+    print!(rt; "{n}")
 }
 
 // The 16 digits of a number, and the words before it.
-pub fn hex(before: &[u8], n: u64) -> bool {
-    if text(before) {
-        return io::print_hex(STDOUT_FILENO, n, 16);
-    }
-    false
+pub fn hex(rt: &impl Print, before: &[u8], n: u64) -> io::Result<()> {
+    text(rt, before)?;
+    print!(rt; "{n:016x}")
 }
 
 fn glyph(half: u8) -> u8 {
@@ -40,16 +36,14 @@ fn put_byte(line: &mut [u8], at: usize, byte: u8) {
 }
 
 // At most 32 bytes.
-fn lot(bytes: &[u8]) -> bool {
+fn lot(rt: &impl Print, bytes: &[u8]) -> io::Result<()> {
     let mut line = [0u8; 64];
-    let mut i: usize = 0;
     let mut place: usize = 0;
-    while i < bytes.len() {
-        put_byte(&mut line, place, bytes[i]);
+    for byte in bytes {
+        put_byte(&mut line, place, *byte);
         place = std::num::wrapping_add_usize(place, 2);
-        i += 1;
     }
-    text(words::part(&line, 0, place))
+    text(rt, words::part(&line, 0, place))
 }
 
 fn lot_end(from: usize, length: usize) -> usize
@@ -63,40 +57,47 @@ fn lot_end(from: usize, length: usize) -> usize
 }
 
 // Bytes as hexadecimal digits, by lots of 32.
-pub fn bytes(bytes: &[u8]) -> bool {
+pub fn bytes(rt: &impl Print, bytes: &[u8]) -> io::Result<()> {
     let mut from: usize = 0;
     while from < bytes.len() {
         let to = lot_end(from, bytes.len());
-        if !lot(words::part(bytes, from, to)) {
-            return false;
-        }
+        lot(rt, words::part(bytes, from, to))?;
         from = to;
     }
-    true
+    Ok(())
 }
 
-fn between(row: usize, comma: &[u8]) -> bool {
+fn between(rt: &impl Print, row: usize, comma: &[u8]) -> io::Result<()> {
     if row > 0 {
-        return text(comma);
+        return text(rt, comma);
     }
-    true
+    Ok(())
 }
 
-fn column(row: usize, column: u32, comma: &[u8]) -> bool {
-    if between(row, comma) {
-        return number(b"", column as u64);
-    }
-    false
+fn column(rt: &impl Print, row: usize, column: u32, comma: &[u8]) -> io::Result<()> {
+    between(rt, row, comma)?;
+    number(rt, b"", column as u64)
 }
 
 // The columns of a key, with a text between one and the next.
-pub fn columns(key: &[u32], comma: &[u8]) -> bool {
-    let mut row: usize = 0;
-    while row < key.len() {
-        if !column(row, key[row], comma) {
-            return false;
-        }
-        row += 1;
+pub fn columns(rt: &impl Print, key: &[u32], comma: &[u8]) -> io::Result<()> {
+    for (row, next) in key.iter().enumerate() {
+        column(rt, row, *next, comma)?;
     }
-    true
+    Ok(())
+}
+
+// An error of the system as text has its number behind its words.
+fn without_number(told: &str) -> &str {
+    match told.split_once(" (os error ") {
+        Some((words, _)) => words,
+        None => told,
+    }
+}
+
+// A line on standard error: what failed, and the system's words for why.
+pub fn failure<R: Eprint + Alloc>(rt: &R, what: &str, error: io::Error) -> io::Result<()> {
+    let told = format!(in rt.alloc(); "{error}")?;
+    let why = without_number(told.as_str());
+    eprintln!(rt; "{what}: {why}")
 }

@@ -27,45 +27,37 @@ pub fn set(bytes: &mut [u8], at: usize, value: u8) {
 // Writes a text at a place of a line, and gives the place behind it.
 pub fn put(line: &mut [u8], at: usize, text: &[u8]) -> usize {
     let mut place = at;
-    let mut i: usize = 0;
-    while i < text.len() {
-        set(line, place, text[i]);
+    for byte in text {
+        set(line, place, *byte);
         place = std::num::wrapping_add_usize(place, 1);
-        i += 1;
     }
     place
 }
 
 // Where a byte is first found from `from` on, and `to` if it is not found before.
 pub fn find(bytes: &[u8], from: usize, to: usize, byte: u8) -> usize {
-    let mut at = from;
-    while at < to {
+    for at in from..to {
         if get(bytes, at) == byte {
             return at;
         }
-        at += 1;
     }
     to
 }
 
 // The bytes from `from` to `to`, moved to the start.
 pub fn move_down(bytes: &mut [u8], from: usize, to: usize) {
-    let mut at = from;
     let mut place: usize = 0;
-    while at < to {
+    for at in from..to {
         let byte = get(&bytes[..], at);
         set(bytes, place, byte);
-        at += 1;
         place = std::num::wrapping_add_usize(place, 1);
     }
 }
 
 // As much of a text as there is room for.
 pub fn copy(to: &mut [u8], from: &[u8]) {
-    let mut i: usize = 0;
-    while i < from.len() && i < to.len() {
-        to[i] = from[i];
-        i += 1;
+    for (place, value) in to.iter_mut().zip(from) {
+        *place = *value;
     }
 }
 
@@ -81,14 +73,12 @@ fn blank(byte: u8) -> bool {
 
 // Where the blanks from `from` on end, or else the word.
 fn past(line: &[u8], from: usize, blanks: bool) -> usize {
-    let mut at = from;
-    while at < line.len() {
+    for at in from..line.len() {
         if blank(line[at]) != blanks {
             return at;
         }
-        at += 1;
     }
-    at
+    from.max(line.len())
 }
 
 // Where the word behind the one that starts here starts; the line's end if there is none.
@@ -99,10 +89,8 @@ pub fn next_start(line: &[u8], start: usize) -> usize {
 // Where the word of this number starts.
 pub fn start_of(line: &[u8], number: usize) -> usize {
     let mut at = past(line, 0, true);
-    let mut left = number;
-    while left > 0 {
+    for _ in 0..number {
         at = next_start(line, at);
-        left -= 1;
     }
     at
 }
@@ -125,13 +113,11 @@ pub fn rest(line: &[u8], number: usize) -> &[u8] {
 // How many words the line has; 16 stands for more too: who takes so many counts them as they come.
 pub fn count(line: &[u8]) -> usize {
     let mut at = past(line, 0, true);
-    let mut words: usize = 0;
-    while words < 16 {
+    for words in 0..16 {
         if line.len() <= at {
             return words;
         }
         at = next_start(line, at);
-        words += 1;
     }
-    words
+    16
 }

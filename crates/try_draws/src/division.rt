@@ -3,9 +3,10 @@ use crate::{course, verdicts};
 use program_text::print;
 use refusal::Verdict;
 use rounding::{DivisionAnswer, Rounding};
+use std::io;
 
 // How a number of a run is made from a draw: which binary digits it keeps, and which are set.
-#[derive(Drop)]
+#[derive(Clone, Copy)]
 pub struct Operand {
     pub keep: u64,
     pub set: u64,
@@ -13,7 +14,7 @@ pub struct Operand {
 
 // A run so far: the state that rounds, the state that the numbers are drawn from, and over all divisions the draws made,
 // the calls refused, and the digest of the values.
-#[derive(Drop)]
+#[derive(Clone, Copy)]
 struct Progress {
     rounding: Rounding,
     source: Rounding,
@@ -38,22 +39,22 @@ fn divide(rounding: Rounding, value: u64, divisor: u64) -> DivisionAnswer {
     rounding.unbiased_div(value as u32, divisor as u32)
 }
 
-fn print_answer(answer: DivisionAnswer) {
+fn print_answer(rt: &impl Print, answer: DivisionAnswer) -> io::Result<()> {
     let verdict = answer.verdict;
     let rounding = answer.rounding;
-    verdicts::tell(verdict);
-    print::number(b", value ", answer.value);
-    print::number(b", draws ", answer.draws as u64);
-    print::number(b", state ", rounding.state);
+    verdicts::tell(rt, verdict)?;
+    print::number(rt, b", value ", answer.value)?;
+    print::number(rt, b", draws ", answer.draws as u64)?;
+    print::number(rt, b", state ", rounding.state)
 }
 
 // One division from any state, 0 too.
-pub fn single(value: u64, divisor: u64, state: u64) {
-    print::number(b"", value);
-    print::number(b" / ", divisor);
-    print::number(b" from state ", state);
-    print_answer(divide(Rounding { state }, value, divisor));
-    print::text(b"\n");
+pub fn single(rt: &impl Print, value: u64, divisor: u64, state: u64) -> io::Result<()> {
+    print::number(rt, b"", value)?;
+    print::number(rt, b" / ", divisor)?;
+    print::number(rt, b" from state ", state)?;
+    print_answer(rt, divide(Rounding { state }, value, divisor))?;
+    print::text(rt, b"\n")
 }
 
 fn drawn(operand: Operand, draw: u64) -> u64 {
@@ -80,14 +81,20 @@ fn joined(before: Progress, source: Rounding, answer: DivisionAnswer) -> Progres
     }
 }
 
-fn print_totals(progress: Progress) {
-    print::number(b"; in all: draws ", progress.draws);
-    print::number(b", refused ", progress.refused);
-    print::number(b", digest ", progress.digest);
-    print::text(b"\n");
+fn print_totals(rt: &impl Print, progress: Progress) -> io::Result<()> {
+    print::number(rt, b"; in all: draws ", progress.draws)?;
+    print::number(rt, b", refused ", progress.refused)?;
+    print::number(rt, b", digest ", progress.digest)?;
+    print::text(rt, b"\n")
 }
 
-fn turn(before: Progress, value: Operand, divisor: Operand, count: u64) -> Progress {
+fn turn(
+    rt: &impl Print,
+    before: Progress,
+    value: Operand,
+    divisor: Operand,
+    count: u64,
+) -> io::Result<Progress> {
     let start = before.rounding;
     let source = before.source;
     let first = source.next_u64();
@@ -100,27 +107,26 @@ fn turn(before: Progress, value: Operand, divisor: Operand, count: u64) -> Progr
     );
     let after = joined(before, second.rounding, answer);
     if course::is_mark(count) {
-        print::number(b"  division ", count);
-        print_answer(answer);
-        print_totals(after);
+        print::number(rt, b"  division ", count)?;
+        print_answer(rt, answer)?;
+        print_totals(rt, after)?;
     }
-    after
+    Ok(after)
 }
 
-fn turns(start: Progress, value: Operand, divisor: Operand) {
+fn turns(rt: &impl Print, start: Progress, value: Operand, divisor: Operand) -> io::Result<()> {
     let mut progress = start;
-    let mut count = 0;
-    while count < course::TURNS {
-        count += 1;
-        progress = turn(progress, value, divisor, count);
+    for count in 1..=course::TURNS {
+        progress = turn(rt, progress, value, divisor, count)?;
     }
+    Ok(())
 }
 
 // Each run rounds from the seed 1 and draws its numbers from the seed 2.
-pub fn run(title: &[u8], value: Operand, divisor: Operand) {
-    print::text(b"divisions: ");
-    print::text(title);
-    print::text(b"\n");
+pub fn run(rt: &impl Print, title: &[u8], value: Operand, divisor: Operand) -> io::Result<()> {
+    print::text(rt, b"divisions: ")?;
+    print::text(rt, title)?;
+    print::text(rt, b"\n")?;
     let start = Progress {
         rounding: Rounding::new(1),
         source: Rounding::new(2),
@@ -128,5 +134,5 @@ pub fn run(title: &[u8], value: Operand, divisor: Operand) {
         refused: 0,
         digest: 0,
     };
-    turns(start, value, divisor);
+    turns(rt, start, value, divisor)
 }

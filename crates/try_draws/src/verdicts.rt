@@ -1,12 +1,12 @@
 // What a call says of itself, behind the words that name it.
 use program_text::print;
 use refusal::Verdict;
+use std::io;
 
-pub fn tell(verdict: Verdict) {
+pub fn tell(rt: &impl Print, verdict: Verdict) -> io::Result<()> {
     let refusal = verdict.number();
     if refusal == 0 {
-        print::text(b": accepted");
-        return;
+        return print::text(rt, b": accepted");
     }
-    print::number(b": refused by ", refusal as u64);
+    print::number(rt, b": refused by ", refusal as u64)
 }

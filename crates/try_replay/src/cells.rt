@@ -3,28 +3,36 @@ mod call;
 
 use crate::report;
 use crate::tally::Tally;
-use program_text::{fields, print, words};
+use program_text::{fields, files, print, words};
+use std::io;
+use std::io::Read;
 
 // The next record: read, called, compared. `given` has room for the cells of a record, `cell` for the one that a call
 // works on.
-pub fn turn(fd: i32, given: &mut [u8], cell: &mut [u8], tally: Tally) -> Tally {
+pub fn turn(
+    rt: &impl Print,
+    file: &mut impl Read,
+    given: &mut [u8],
+    cell: &mut [u8],
+    tally: Tally,
+) -> io::Result<Tally> {
     let mut header = [0u8; 80];
-    let got = io::read_full(fd, &mut header[..48]);
+    let got = files::read_full(file, &mut header[..48]);
     if got < 48 {
-        return tally.ended(got);
+        return tally.ended(rt, got);
     }
     let depth = depth_of(&header);
     let size = size_of(&header);
     if cell.len() < depth {
-        return tally.ended(got);
+        return tally.ended(rt, got);
     }
     if given.len() < size {
-        return tally.ended(got);
+        return tally.ended(rt, got);
     }
-    if io::read_full(fd, &mut given[0..size]) < size {
-        return tally.ended(got);
+    if files::read_full(file, &mut given[0..size]) < size {
+        return tally.ended(rt, got);
     }
-    compare(&header, &given[0..size], &mut cell[0..depth], tally)
+    compare(rt, &header, &given[0..size], &mut cell[0..depth], tally)
 }
 
 // The bytes of each cell that follows; 0 if none does.
@@ -48,7 +56,13 @@ fn size_of(header: &[u8; 80]) -> usize {
 }
 
 // The call works on the record's first cell and leaves its last; between them stands the one that is merged in.
-fn compare(header: &[u8; 80], given: &[u8], cell: &mut [u8], tally: Tally) -> Tally {
+fn compare(
+    rt: &impl Print,
+    header: &[u8; 80],
+    given: &[u8],
+    cell: &mut [u8],
+    tally: Tally,
+) -> io::Result<Tally> {
     let depth = cell.len();
     let size = given.len();
     let last = std::num::wrapping_sub_usize(size, depth);
@@ -60,22 +74,28 @@ fn compare(header: &[u8; 80], given: &[u8], cell: &mut [u8], tally: Tally) -> Ta
     let expected = call::expected_of(header);
     let came = call::perform(call, cell, src);
     if call::same(expected, came) {
-        if check::same(after, cell) {
-            return tally.right();
+        if after == &cell[..] {
+            return Ok(tally.right());
         }
     }
     if tally.wrong == 0 {
-        report::call(b"cells", tally.calls);
-        call::show(call, expected, came);
-        show_cells(before, src, after, cell);
+        report::call(rt, b"cells", tally.calls)?;
+        call::show(rt, call, expected, came)?;
+        show_cells(rt, before, src, after, cell)?;
     }
-    tally.failed()
+    Ok(tally.failed())
 }
 
-fn show_cells(before: &[u8], src: &[u8], after: &[u8], came: &[u8]) {
-    report::bytes(b"cell before", before);
-    report::bytes(b"cell merged in", src);
-    report::bytes(b"cell expected", after);
-    report::bytes(b"cell that came", came);
-    print::text(b"\n");
+fn show_cells(
+    rt: &impl Print,
+    before: &[u8],
+    src: &[u8],
+    after: &[u8],
+    came: &[u8],
+) -> io::Result<()> {
+    report::bytes(rt, b"cell before", before)?;
+    report::bytes(rt, b"cell merged in", src)?;
+    report::bytes(rt, b"cell expected", after)?;
+    report::bytes(rt, b"cell that came", came)?;
+    print::text(rt, b"\n")
 }

@@ -2,10 +2,12 @@
 use crate::tally::Tally;
 use crate::{answer, report};
 use clock::{MovedAnswer, SubWindowClock};
-use program_text::{fields, floats, print};
+use program_text::{fields, files, floats, print};
+use std::io;
+use std::io::Read;
 
 // A clock's fields; its moment is what it has seen, or its now.
-#[derive(Drop)]
+#[derive(Clone, Copy)]
 pub struct Fields {
     pub timed: u64,
     pub length: u64,
@@ -13,7 +15,7 @@ pub struct Fields {
     pub moment: u64,
 }
 
-#[derive(Drop)]
+#[derive(Clone, Copy)]
 struct Call {
     kind: u64,
     clock: Fields,
@@ -24,7 +26,7 @@ struct Call {
 }
 
 // How the call leaves the clock, and what it then reads. A clock that was moved keeps its frame.
-#[derive(Drop)]
+#[derive(Clone, Copy)]
 struct Answer {
     refused: u64,
     moment: u64,
@@ -35,24 +37,24 @@ struct Answer {
 }
 
 // The next record: read, called, compared.
-pub fn turn(fd: i32, tally: Tally) -> Tally {
+pub fn turn(rt: &impl Print, file: &mut impl Read, tally: Tally) -> io::Result<Tally> {
     let mut header = [0u8; 80];
-    let got = io::read_full(fd, &mut header);
+    let got = files::read_full(file, &mut header);
     if got < 80 {
-        return tally.ended(got);
+        return tally.ended(rt, got);
     }
     let call = call_of(&header);
     let expected = expected_of(&header);
     let came = perform(call);
     if same(expected, came) {
-        return tally.right();
+        return Ok(tally.right());
     }
     if tally.wrong == 0 {
-        report::call(b"clock", tally.calls);
-        show_call(call);
-        show_answers(expected, came);
+        report::call(rt, b"clock", tally.calls)?;
+        show_call(rt, call)?;
+        show_answers(rt, expected, came)?;
     }
-    tally.failed()
+    Ok(tally.failed())
 }
 
 fn call_of(header: &[u8; 80]) -> Call {
@@ -178,40 +180,40 @@ fn same(a: Answer, b: Answer) -> bool {
         && a.same_frame == b.same_frame
 }
 
-fn show_call(call: Call) {
+fn show_call(rt: &impl Print, call: Call) -> io::Result<()> {
     let kind = call.kind;
     match kind {
-        1 => print::text(b"n and residual_fraction"),
-        2 => print::text(b"tick"),
-        3 => print::text(b"advance_to"),
-        4 => print::text(b"same_frame"),
-        _ => print::text(b"no such kind"),
-    };
-    show_clock(call.clock);
+        1 => print::text(rt, b"n and residual_fraction"),
+        2 => print::text(rt, b"tick"),
+        3 => print::text(rt, b"advance_to"),
+        4 => print::text(rt, b"same_frame"),
+        _ => print::text(rt, b"no such kind"),
+    }?;
+    show_clock(rt, call.clock)?;
     match kind {
-        3 => report::with(b"reading", call.reading),
-        4 => show_clock(call.other),
-        _ => {}
+        3 => report::with(rt, b"reading", call.reading),
+        4 => show_clock(rt, call.other),
+        _ => Ok(()),
     }
 }
 
-pub fn show_clock(fields: Fields) {
+pub fn show_clock(rt: &impl Print, fields: Fields) -> io::Result<()> {
     if fields.timed == 0 {
-        print::text(b", count");
+        print::text(rt, b", count")?;
     } else {
-        print::text(b", time");
+        print::text(rt, b", time")?;
     }
-    report::with(b"length", fields.length);
-    report::with(b"epoch", fields.epoch);
-    report::with(b"seen or now", fields.moment);
+    report::with(rt, b"length", fields.length)?;
+    report::with(rt, b"epoch", fields.epoch)?;
+    report::with(rt, b"seen or now", fields.moment)
 }
 
-fn show_answers(expected: Answer, came: Answer) {
-    report::compare(b"refused by", expected.refused, came.refused);
-    report::compare(b"seen or now", expected.moment, came.moment);
-    report::compare(b"crossed", expected.crossed, came.crossed);
-    report::compare(b"n", expected.n, came.n);
-    report::compare_bits(b"fraction", expected.fraction, came.fraction);
-    report::compare(b"same frame", expected.same_frame, came.same_frame);
-    print::text(b"\n");
+fn show_answers(rt: &impl Print, expected: Answer, came: Answer) -> io::Result<()> {
+    report::compare(rt, b"refused by", expected.refused, came.refused)?;
+    report::compare(rt, b"seen or now", expected.moment, came.moment)?;
+    report::compare(rt, b"crossed", expected.crossed, came.crossed)?;
+    report::compare(rt, b"n", expected.n, came.n)?;
+    report::compare_bits(rt, b"fraction", expected.fraction, came.fraction)?;
+    report::compare(rt, b"same frame", expected.same_frame, came.same_frame)?;
+    print::text(rt, b"\n")
 }

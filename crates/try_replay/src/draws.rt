@@ -1,10 +1,12 @@
 // The file `draws`: the calls of the crate rounding.
 use crate::tally::Tally;
 use crate::{answer, report};
-use program_text::{fields, numbers, print};
+use program_text::{fields, files, numbers, print};
 use rounding::{DivisionAnswer, Rounding};
+use std::io;
+use std::io::Read;
 
-#[derive(Drop)]
+#[derive(Clone, Copy)]
 struct Call {
     kind: u64,
     state: u64,
@@ -14,7 +16,7 @@ struct Call {
     draws: u64,
 }
 
-#[derive(Drop)]
+#[derive(Clone, Copy)]
 struct Answer {
     refused: u64,
     value: u64,
@@ -23,24 +25,24 @@ struct Answer {
 }
 
 // The next record: read, called, compared.
-pub fn turn(fd: i32, tally: Tally) -> Tally {
+pub fn turn(rt: &impl Print, file: &mut impl Read, tally: Tally) -> io::Result<Tally> {
     let mut header = [0u8; 80];
-    let got = io::read_full(fd, &mut header[..48]);
+    let got = files::read_full(file, &mut header[..48]);
     if got < 48 {
-        return tally.ended(got);
+        return tally.ended(rt, got);
     }
     let call = call_of(&header);
     let expected = expected_of(&header);
     let came = perform(call);
     if same(expected, came) {
-        return tally.right();
+        return Ok(tally.right());
     }
     if tally.wrong == 0 {
-        report::call(b"draws", tally.calls);
-        show_call(call);
-        show_answers(expected, came);
+        report::call(rt, b"draws", tally.calls)?;
+        show_call(rt, call)?;
+        show_answers(rt, expected, came)?;
     }
-    tally.failed()
+    Ok(tally.failed())
 }
 
 fn call_of(header: &[u8; 80]) -> Call {
@@ -87,10 +89,8 @@ fn nothing_drawn(refused: u64, rounding: Rounding) -> Answer {
 
 fn run(rounding: Rounding, draws: u64) -> Answer {
     let mut answer = nothing_drawn(0, rounding);
-    let mut left = draws;
-    while left > 0 {
+    for _ in 0..draws {
         answer = drawn(answer);
-        left -= 1;
     }
     answer
 }
@@ -123,31 +123,31 @@ fn same(a: Answer, b: Answer) -> bool {
     a.refused == b.refused && a.value == b.value && a.state == b.state && a.draws == b.draws
 }
 
-fn show_call(call: Call) {
+fn show_call(rt: &impl Print, call: Call) -> io::Result<()> {
     let kind = call.kind;
     match kind {
-        1 => print::text(b"next_u64"),
-        2 => print::text(b"unbiased_div_u64"),
-        3 => print::text(b"unbiased_div"),
-        4 => print::text(b"Rounding::new"),
-        5 => print::text(b"next_u64 in a row"),
-        _ => print::text(b"no such kind"),
-    };
-    report::with(b"state or seed", call.state);
+        1 => print::text(rt, b"next_u64"),
+        2 => print::text(rt, b"unbiased_div_u64"),
+        3 => print::text(rt, b"unbiased_div"),
+        4 => print::text(rt, b"Rounding::new"),
+        5 => print::text(rt, b"next_u64 in a row"),
+        _ => print::text(rt, b"no such kind"),
+    }?;
+    report::with(rt, b"state or seed", call.state)?;
     match kind {
         2 | 3 => {
-            report::with(b"v", call.v);
-            report::with(b"d", call.d);
+            report::with(rt, b"v", call.v)?;
+            report::with(rt, b"d", call.d)
         }
-        5 => report::with(b"draws", call.draws),
-        _ => {}
+        5 => report::with(rt, b"draws", call.draws),
+        _ => Ok(()),
     }
 }
 
-fn show_answers(expected: Answer, came: Answer) {
-    report::compare(b"refused by", expected.refused, came.refused);
-    report::compare(b"value", expected.value, came.value);
-    report::compare(b"state", expected.state, came.state);
-    report::compare(b"draws", expected.draws, came.draws);
-    print::text(b"\n");
+fn show_answers(rt: &impl Print, expected: Answer, came: Answer) -> io::Result<()> {
+    report::compare(rt, b"refused by", expected.refused, came.refused)?;
+    report::compare(rt, b"value", expected.value, came.value)?;
+    report::compare(rt, b"state", expected.state, came.state)?;
+    report::compare(rt, b"draws", expected.draws, came.draws)?;
+    print::text(rt, b"\n")
 }

@@ -11,77 +11,101 @@ mod sketches;
 mod tally;
 
 use program_text::print;
+use std::io::Read;
+use std::rt::Files;
+use std::{fs, io};
 use tally::Tally;
 
-#[derive(Drop)]
+#[derive(Clone, Copy)]
 enum File {
     Draws,
     Cells,
     Clock,
 }
 
-fn main() {
-    replay_file(b"draws", File::Draws);
-    replay_file(b"cells", File::Cells);
-    replay_file(b"clock", File::Clock);
-    replay_sketches(b"sketches");
+fn main(rt: HostRuntime) -> io::Result<()> {
+    replay_file(&rt, "draws", File::Draws)?;
+    replay_file(&rt, "cells", File::Cells)?;
+    replay_file(&rt, "clock", File::Clock)?;
+    replay_sketches(&rt, "sketches")
 }
 
-fn replay_file(name: &[u8], file: File) {
-    let fd = opened(name);
-    if fd < 0 {
-        return;
-    }
+fn replay_file<R: Files + Print + Eprint + Alloc>(
+    rt: &R,
+    name: &str,
+    kind: File,
+) -> io::Result<()> {
+    let Some(file) = opened(rt, name)? else {
+        return Ok(());
+    };
+    let mut file = file;
     // Three cells of the largest depth, and one.
     let mut given = [0u8; 12312];
     let mut cell = [0u8; 4104];
-    let tally = replay(fd, file, &mut given, &mut cell);
-    close(fd, name, tally);
+    let tally = replay(rt, &mut file, kind, &mut given, &mut cell)?;
+    close(rt, file, name, tally)
 }
 
-fn replay_sketches(name: &[u8]) {
-    let fd = opened(name);
-    if fd < 0 {
-        return;
-    }
+fn replay_sketches<R: Files + Print + Eprint + Alloc>(rt: &R, name: &str) -> io::Result<()> {
+    let Some(file) = opened(rt, name)? else {
+        return Ok(());
+    };
+    let mut file = file;
     // As large as the format lets the grids of the two slots be.
     let mut first = [0u8; 524288];
     let mut second = [0u8; 16416];
-    let tally = sketches::replay(fd, &mut first, &mut second);
-    close(fd, name, tally);
+    let tally = sketches::replay(rt, &mut file, &mut first, &mut second)?;
+    close(rt, file, name, tally)
 }
 
-fn opened(name: &[u8]) -> i32 {
-    let fd = os::open_read(name);
-    if fd < 0 {
-        os::fail(name);
+// Of a file that cannot be opened only that is told.
+fn opened<R: Files + Eprint + Alloc>(rt: &R, name: &str) -> io::Result<Option<R::File>> {
+    match fs::open(rt, name) {
+        Ok(file) => Ok(Some(file)),
+        Err(e) => {
+            print::failure(rt, name, e)?;
+            Ok(None)
+        }
     }
-    fd
 }
 
-fn close(fd: i32, name: &[u8], tally: Tally) {
-    libc::close(fd);
-    print::text(name);
-    print::number(b": ", tally.calls);
-    print::number(b" calls, ", tally.wrong);
-    print::text(b" wrong\n");
+fn close<F: Drop>(rt: &impl Print, file: F, name: &str, tally: Tally) -> io::Result<()> {
+    drop(file);
+    print::text(rt, name.as_bytes())?;
+    print::number(rt, b": ", tally.calls)?;
+    print::number(rt, b" calls, ", tally.wrong)?;
+    print::text(rt, b" wrong\n")
 }
 
-fn replay(fd: i32, file: File, given: &mut [u8], cell: &mut [u8]) -> Tally {
+fn replay(
+    rt: &impl Print,
+    file: &mut impl Read,
+    kind: File,
+    given: &mut [u8],
+    cell: &mut [u8],
+) -> io::Result<Tally> {
     let mut tally = Tally::new();
-    // Nothing says that a file ends, and a loop has to: so it counts down from what no file reaches.
-    let mut turns = u64::MAX;
-    while turns > 0 && tally.more {
-        tally = turn(fd, file, given, cell, tally);
-        turns -= 1;
+    // Nothing says that a file ends, and a loop has to: so it counts to what no file reaches.
+    for _ in 0..u64::MAX {
+        if !tally.more {
+            break;
+        }
+        tally = turn(rt, file, kind, given, cell, tally)?;
     }
-    tally
+    Ok(tally)
 }
 
-fn turn(fd: i32, file: File, given: &mut [u8], cell: &mut [u8], tally: Tally) -> Tally {
-    match file {
-        File::Draws => draws::turn(fd, tally),
-        File::Cells => cells::turn(fd, given, cell, tally),
-        File::Clock => clocks::turn(fd, tally),
+fn turn(
+    rt: &impl Print,
+    file: &mut impl Read,
+    kind: File,
+    given: &mut [u8],
+    cell: &mut [u8],
+    tally: Tally,
+) -> io::Result<Tally> {
+    match kind {
+        File::Draws => draws::turn(rt, file, tally),
+        File::Cells => cells::turn(rt, file, given, cell, tally),
+        File::Clock => clocks::turn(rt, file, tally),
     }
 }

@@ -8,11 +8,13 @@ mod show;
 
 use crate::tally::Tally;
 use call::{Answer, Call};
-use program_text::{columns, words};
+use program_text::{columns, files, words};
 use sketch::MicroCm;
+use std::io;
+use std::io::Read;
 
 // How far the file is: the sketch of the slot that a call is on, and the other slot's. Their grids are lent.
-#[derive(Drop)]
+#[derive(Clone, Copy)]
 pub struct Progress {
     pub tally: Tally,
     pub sketch: MicroCm,
@@ -20,15 +22,21 @@ pub struct Progress {
 }
 
 // `first` and `second` have room for the grids of slots 0 and 1.
-pub fn replay(fd: i32, first: &mut [u8], second: &mut [u8]) -> Tally {
+pub fn replay(
+    rt: &impl Print,
+    file: &mut impl Read,
+    first: &mut [u8],
+    second: &mut [u8],
+) -> io::Result<Tally> {
     let mut progress = begun();
     // As in `main`: a loop has to end.
-    let mut turns = u64::MAX;
-    while turns > 0 && progress.tally.more {
-        progress = turn(fd, first, second, progress);
-        turns -= 1;
+    for _ in 0..u64::MAX {
+        if !progress.tally.more {
+            break;
+        }
+        progress = turn(rt, file, first, second, progress)?;
     }
-    progress.tally
+    Ok(progress.tally)
 }
 
 fn begun() -> Progress {
@@ -47,27 +55,34 @@ fn none() -> MicroCm {
 }
 
 // The next record: read, called, compared.
-fn turn(fd: i32, first: &mut [u8], second: &mut [u8], progress: Progress) -> Progress {
+fn turn(
+    rt: &impl Print,
+    file: &mut impl Read,
+    first: &mut [u8],
+    second: &mut [u8],
+    progress: Progress,
+) -> io::Result<Progress> {
     let mut header = [0u8; 80];
-    let got = io::read_full(fd, &mut header[..64]);
+    let got = files::read_full(file, &mut header[..64]);
     if got < 64 {
-        return ended(progress, got);
+        return ended(rt, progress, got);
     }
     let mut words = [0u8; 80];
-    if !fill(fd, &mut words, call::word_bytes(&header)) {
-        return ended(progress, got);
+    if !fill(file, &mut words, call::word_bytes(&header)) {
+        return ended(rt, progress, got);
     }
     let mut columns = [0u8; 256];
     let column_bytes = call::column_bytes(&header);
-    if !fill(fd, &mut columns, column_bytes) {
-        return ended(progress, got);
+    if !fill(file, &mut columns, column_bytes) {
+        return ended(rt, progress, got);
     }
     let mut shown = [0u8; 200];
     let grid_bytes = call::grid_bytes(&header);
-    if !fill(fd, &mut shown, grid_bytes) {
-        return ended(progress, got);
+    if !fill(file, &mut shown, grid_bytes) {
+        return ended(rt, progress, got);
     }
     in_slot(
+        rt,
         call::call_of(&header, &words),
         call::expected_of(&header, &words),
         words::part(&columns, 0, column_bytes),
@@ -78,27 +93,28 @@ fn turn(fd: i32, first: &mut [u8], second: &mut [u8], progress: Progress) -> Pro
     )
 }
 
-fn ended(progress: Progress, got: usize) -> Progress {
+fn ended(rt: &impl Print, progress: Progress, got: usize) -> io::Result<Progress> {
     let tally = progress.tally;
     let sketch = progress.sketch;
     let other = progress.other;
-    Progress {
-        tally: tally.ended(got),
+    Ok(Progress {
+        tally: tally.ended(rt, got)?,
         sketch,
         other,
-    }
+    })
 }
 
 // Reads so many bytes to the front of a buffer, if it has room for them and the file has them.
-fn fill(fd: i32, buffer: &mut [u8], size: usize) -> bool {
+fn fill(file: &mut impl Read, buffer: &mut [u8], size: usize) -> bool {
     if buffer.len() < size {
         return false;
     }
-    io::read_full(fd, &mut buffer[0..size]) == size
+    files::read_full(file, &mut buffer[0..size]) == size
 }
 
 // The slot that the call is on comes first.
 fn in_slot(
+    rt: &impl Print,
     call: Call,
     expected: Answer,
     columns: &[u8],
@@ -106,14 +122,24 @@ fn in_slot(
     first: &mut [u8],
     second: &mut [u8],
     progress: Progress,
-) -> Progress {
+) -> io::Result<Progress> {
     if call.slot > 1 {
-        return ended(progress, 64);
+        return ended(rt, progress, 64);
     }
     if call.slot == 0 {
-        return on_grids(call, expected, columns, shown, first, &second[..], progress);
+        return on_grids(
+            rt,
+            call,
+            expected,
+            columns,
+            shown,
+            first,
+            &second[..],
+            progress,
+        );
     }
-    turned(on_grids(
+    let after = on_grids(
+        rt,
         call,
         expected,
         columns,
@@ -121,7 +147,8 @@ fn in_slot(
         second,
         &first[..],
         turned(progress),
-    ))
+    )?;
+    Ok(turned(after))
 }
 
 fn turned(progress: Progress) -> Progress {
@@ -137,6 +164,7 @@ fn turned(progress: Progress) -> Progress {
 
 // A grid has as many bytes of its slot's room as its sketch needs.
 fn on_grids(
+    rt: &impl Print,
     call: Call,
     expected: Answer,
     columns: &[u8],
@@ -144,16 +172,17 @@ fn on_grids(
     room: &mut [u8],
     other_room: &[u8],
     progress: Progress,
-) -> Progress {
+) -> io::Result<Progress> {
     let sketch = call::subject(call, progress.sketch);
     let size = grid::size_of(sketch);
     let other_size = grid::size_of(progress.other);
     if room.len() < size {
-        return ended(progress, size);
+        return ended(rt, progress, size);
     }
     let mut key = [0u32; 128];
     key::fill(&mut key, columns);
     compare::compare(
+        rt,
         call,
         expected,
         columns::first(&key, columns.len() / 2),

@@ -1,7 +1,8 @@
 // How much of a file has been replayed.
 use program_text::print;
+use std::io;
 
-#[derive(Drop)]
+#[derive(Clone, Copy)]
 pub struct Tally {
     pub calls: u64,
     pub wrong: u64,
@@ -34,19 +35,22 @@ impl Tally {
     }
 
     // No whole record came. That is the file's end where nothing came; a part of one counts as a wrong call.
-    pub fn ended(self, got: usize) -> Tally {
+    pub fn ended(self, rt: &impl Print, got: usize) -> io::Result<Tally> {
         if got == 0 {
-            return Tally {
+            return Ok(Tally {
                 calls: self.calls,
                 wrong: self.wrong,
                 more: false,
-            };
+            });
         }
-        print::text(b"a record is cut short, or longer than the format allows\n");
-        Tally {
+        print::text(
+            rt,
+            b"a record is cut short, or longer than the format allows\n",
+        )?;
+        Ok(Tally {
             calls: self.calls,
             wrong: std::num::wrapping_add_u64(self.wrong, 1),
             more: false,
-        }
+        })
     }
 }

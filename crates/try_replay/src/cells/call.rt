@@ -3,8 +3,9 @@ use crate::{answer, report};
 use cell::{CellAnswer, MicroLayout, MicroParams};
 use program_text::{fields, floats, print};
 use rounding::Rounding;
+use std::io;
 
-#[derive(Drop)]
+#[derive(Clone, Copy)]
 pub struct Call {
     kind: u64,
     params: MicroParams,
@@ -15,7 +16,7 @@ pub struct Call {
 
 // What a call gives beside the bytes. The values are draws and state; for a layout depth, pixels and max_zoom; for the
 // fields of a cell zoom, shutter and scaled_pixel.
-#[derive(Drop)]
+#[derive(Clone, Copy)]
 pub struct Answer {
     refused: u64,
     first: u64,
@@ -126,50 +127,51 @@ pub fn same(a: Answer, b: Answer) -> bool {
     a.refused == b.refused && a.first == b.first && a.second == b.second && a.third == b.third
 }
 
-pub fn show(call: Call, expected: Answer, came: Answer) {
-    show_call(call);
-    report::compare(b"refused by", expected.refused, came.refused);
-    show_values(call.kind, expected, came);
+pub fn show(rt: &impl Print, call: Call, expected: Answer, came: Answer) -> io::Result<()> {
+    show_call(rt, call)?;
+    report::compare(rt, b"refused by", expected.refused, came.refused)?;
+    show_values(rt, call.kind, expected, came)
 }
 
-fn show_call(call: Call) {
+fn show_call(rt: &impl Print, call: Call) -> io::Result<()> {
     let kind = call.kind;
     match kind {
-        1 => print::text(b"insert"),
-        2 => print::text(b"enter_sub_window"),
-        3 => print::text(b"merge_cells"),
-        4 => print::text(b"MicroLayout::new and max_zoom"),
-        5 => print::text(b"zoom, shutter and scaled_pixel"),
-        _ => print::text(b"no such kind"),
-    };
-    report::with(b"t", call.params.t as u64);
-    report::with(b"c", call.params.c as u64);
+        1 => print::text(rt, b"insert"),
+        2 => print::text(rt, b"enter_sub_window"),
+        3 => print::text(rt, b"merge_cells"),
+        4 => print::text(rt, b"MicroLayout::new and max_zoom"),
+        5 => print::text(rt, b"zoom, shutter and scaled_pixel"),
+        _ => print::text(rt, b"no such kind"),
+    }?;
+    report::with(rt, b"t", call.params.t as u64)?;
+    report::with(rt, b"c", call.params.c as u64)?;
     if kind != 4 {
-        report::with(b"n", call.n);
+        report::with(rt, b"n", call.n)?;
     }
     if kind == 2 {
-        report::with(b"crossed", call.crossed);
+        report::with(rt, b"crossed", call.crossed)?;
     }
     if kind < 4 {
-        report::with(b"state", call.state);
+        report::with(rt, b"state", call.state)?;
     }
+    Ok(())
 }
 
-fn show_values(kind: u64, expected: Answer, came: Answer) {
+fn show_values(rt: &impl Print, kind: u64, expected: Answer, came: Answer) -> io::Result<()> {
     match kind {
         4 => {
-            report::compare(b"depth", expected.first, came.first);
-            report::compare(b"pixels", expected.second, came.second);
-            report::compare(b"max_zoom", expected.third, came.third);
+            report::compare(rt, b"depth", expected.first, came.first)?;
+            report::compare(rt, b"pixels", expected.second, came.second)?;
+            report::compare(rt, b"max_zoom", expected.third, came.third)
         }
         5 => {
-            report::compare(b"zoom", expected.first, came.first);
-            report::compare(b"shutter", expected.second, came.second);
-            report::compare_bits(b"scaled_pixel", expected.third, came.third);
+            report::compare(rt, b"zoom", expected.first, came.first)?;
+            report::compare(rt, b"shutter", expected.second, came.second)?;
+            report::compare_bits(rt, b"scaled_pixel", expected.third, came.third)
         }
         _ => {
-            report::compare(b"draws", expected.first, came.first);
-            report::compare(b"state", expected.second, came.second);
+            report::compare(rt, b"draws", expected.first, came.first)?;
+            report::compare(rt, b"state", expected.second, came.second)
         }
     }
 }

@@ -6,7 +6,7 @@ use program_text::fields;
 use rounding::Rounding;
 use sketch::MicroCm;
 
-#[derive(Drop)]
+#[derive(Clone, Copy)]
 pub struct Call {
     pub kind: u64,
     pub slot: u64,
@@ -21,7 +21,7 @@ pub struct Call {
 }
 
 // The bits of what a reading gives: its figures and its fraction, and the two figures that come as whole numbers too.
-#[derive(Drop)]
+#[derive(Clone, Copy)]
 pub struct Figures {
     pub over: u64,
     pub under: u64,
@@ -32,7 +32,7 @@ pub struct Figures {
 }
 
 // How the call leaves the sketch and what it gives.
-#[derive(Drop)]
+#[derive(Clone, Copy)]
 pub struct Answer {
     pub refused: u64,
     pub n: u64,

@@ -3,9 +3,11 @@ use crate::report;
 use crate::sketches::call::{Answer, Call};
 use crate::sketches::{Progress, call, grid, perform, show};
 use program_text::words;
+use std::io;
 
 // After a wrong call the sketch goes on as our call left it.
 pub fn compare(
+    rt: &impl Print,
     call: Call,
     expected: Answer,
     key: &[u32],
@@ -13,7 +15,7 @@ pub fn compare(
     grid: &mut [u8],
     other_grid: &[u8],
     progress: Progress,
-) -> Progress {
+) -> io::Result<Progress> {
     let mut copy = [0u8; 200];
     words::copy(&mut copy, &grid[..]);
     let before = call::subject(call, progress.sketch);
@@ -23,28 +25,29 @@ pub fn compare(
     let came = perform::answer_of(outcome, before, &grid[..]);
     let sketch = outcome.sketch;
     if call::same(expected, came) && grid::as_shown(&grid[..], shown) {
-        return Progress {
+        return Ok(Progress {
             tally: tally.right(),
             sketch,
             other,
-        };
+        });
     }
     if tally.wrong == 0 {
-        report::call(b"sketches", tally.calls);
-        show::call(call, before);
-        show::key(key);
-        show::answers(call.kind, expected, came);
+        report::call(rt, b"sketches", tally.calls)?;
+        show::call(rt, call, before)?;
+        show::key(rt, key)?;
+        show::answers(rt, call.kind, expected, came)?;
         show::grids(
+            rt,
             call.kind,
             words::part(&copy, 0, grid.len()),
             other_grid,
             shown,
             &grid[..],
-        );
+        )?;
     }
-    Progress {
+    Ok(Progress {
         tally: tally.failed(),
         sketch,
         other,
-    }
+    })
 }

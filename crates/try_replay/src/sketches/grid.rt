@@ -29,10 +29,8 @@ fn size(rows: usize, cols: usize, depth: usize) -> usize {
 // docs/ORACLE.md's digest.
 pub fn digest(grid: &[u8]) -> u64 {
     let mut sum: u64 = 0;
-    let mut i: usize = 0;
-    while i < grid.len() {
-        sum = step(sum, grid[i]);
-        i += 1;
+    for byte in grid {
+        sum = step(sum, *byte);
     }
     sum
 }
@@ -49,5 +47,5 @@ pub fn as_shown(grid: &[u8], shown: &[u8]) -> bool {
     if shown.len() == 0 {
         return true;
     }
-    check::same(grid, shown)
+    grid == shown
 }

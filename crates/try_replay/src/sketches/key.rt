@@ -3,10 +3,8 @@ use program_text::fields;
 
 // Columns of two bytes, by row; 0 where the record has none.
 pub fn fill(key: &mut [u32], columns: &[u8]) {
-    let mut row: usize = 0;
-    while row < key.len() {
-        key[row] = column(columns, row);
-        row += 1;
+    for (row, place) in key.iter_mut().enumerate() {
+        *place = column(columns, row);
     }
 }
 

@@ -8,7 +8,7 @@ use rounding::Rounding;
 use sketch::{HighestAnswer, MicroCm, ReadingAnswer, SketchAnswer};
 
 // What a call gives beside the grid's bytes.
-#[derive(Drop)]
+#[derive(Clone, Copy)]
 pub struct Outcome {
     pub refused: u64,
     pub sketch: MicroCm,
@@ -104,10 +104,8 @@ fn changed(answer: SketchAnswer) -> Outcome {
 
 fn counted(call: Call, sketch: MicroCm, key: &[u32], grid: &mut [u8]) -> Outcome {
     let mut outcome = still(0, sketch);
-    let mut left = call.times;
-    while left > 0 {
+    for _ in 0..call.times {
         outcome = counted_once(call, outcome, key, grid);
-        left -= 1;
     }
     outcome
 }

@@ -1,8 +1,7 @@
 -- `bits` gives a float's own pattern: only a NaN differs from itself, so that no other goes by the NaN's.
-use Rattle.std.proofs.Common.{◌≡◌, ◌*◌, true, false, not, T, sym, refl, ◌∙◌, rules, eq-eqb}
+use Rattle.std.proofs.Common.{◌≡◌, ◌*◌, true, false, not, T, sym, refl, ◌∙◌, eq-eqb}
 use lib.Ieee.{Float, nan, inf, fin, up, down, binary64, eq, ne, is_nan, to_bits}
-use Rattle.program_text.proofs.floats.bits.Statement.{statement}
-use Rattle.program_text.proofs.floats.bits.Tie as tie
+use Rattle.program_text.proofs.floats.bits.Goals as goal
 
 differs-nan : (x : Float) → ne x x ≡ is_nan x
 unfolding eq ne is_nan
@@ -21,14 +20,8 @@ nan-bits (fin s m e) h = cc
 number : (x : Float) → is_nan x ≡ false → T (not (is_nan x))
 number x h = rw h tt
 
-returns : tie.Need-returns
-returns c = nan-bits c.before.args.x (sym (differs-nan c.before.args.x) ∙ c.if1.true)
+pub returns-then-x : goal.returns-then-x
+returns-then-x c = nan-bits c.args.x (sym (differs-nan c.args.x) ∙ c.if-x.true)
 
-float-to-bits-result : tie.Need-float-to-bits-result
-float-to-bits-result c = number c.before.args.x (sym (differs-nan c.before.args.x) ∙ c.if1.false)
-
-returns-2 : tie.Need-returns-2
-returns-2 c = search rules
-
-pub bits-spec : {M : Type 1} → statement M
-bits-spec = tie.close (tie.spec returns float-to-bits-result returns-2)
+pub float_to_bits-result : goal.float_to_bits-result
+float_to_bits-result c = number c.args.x (sym (differs-nan c.args.x) ∙ c.if-x.false)
