@@ -1,5 +1,5 @@
 //! Tells the linker where libmicroscope.a is: in the folder MICROSCOPE_LIB, or where tools/build_library writes it. If it
-//! is not there, and if oracle/tree has not made the links that the tests need, says so in words.
+//! is not there, and if oracle/tree has not made the copies that the tests need, says so in words.
 
 use std::path::{Path, PathBuf};
 

@@ -5,7 +5,7 @@ use mathlib.Core.List.{List}
 use lib.Arith.{digits_lt}
 use lib.ListN.{get_or}
 use native.Mathlib.Omega.{arith}
-use native.Mathlib.Nat.{le_trans, mul-le-mul_left, mul-le-mul_right, one-le-pow, pow-le-pow_right, mul-zero, one-mul, pow-suc, pow-zero}
+use native.Mathlib.Nat.{one-le-pow, pow-le-pow_right, mul-zero, one-mul, pow-suc, pow-zero}
 use borrow.Author.Tests.{eq-eqb, ne_eqb}
 use Rattle.laws.specs.Sums.{least, largest}
 use Rattle.laws.specs.Within.{Within}

@@ -3,6 +3,7 @@
 // What goes over the edge is numbers, slices (an address and a length) and arrays of a fixed length (an address): no struct goes by
 // value, so that any machine's C can call. A sketch is nine words that the caller keeps. A call returns document 01's number, 0 if
 // it was accepted. What it changes a refused call leaves; what it tells is written either way. include/microscope.h names the words.
+// C links the exports of crates edge_c and edge_timed_c, one for each function here and in crate edge_timed, with its clauses.
 #![tactic(auto)]
 
 pub mod cells;

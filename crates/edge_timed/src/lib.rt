@@ -1,5 +1,6 @@
-// The edge to C and Rust, an item on a clock of time. It is compiled by itself: the work of counting an item, which it shares with the
-// item on a count clock, is compiled into a call only where one call has it, and else costs each of them a third more.
+// The edge to C and Rust, an item on a clock of time. Its export, crate edge_timed_c, is compiled by itself: the work of counting an
+// item, which it shares with the item on a count clock, is compiled into a call only where one call has it, and else costs each of them
+// a third more.
 #![tactic(auto)]
 
 ghost use Rattle.std.specs.Prelude.{◌≡◌};

@@ -7,7 +7,7 @@ use native.Mathlib.Nat.{le_of_lt, le_of_eq, le_antisymm, not-le_of_lt, lt_irrefl
 use native.Mathlib.Nat.{mul_comm, mul_assoc, mul_left_comm, add-mul, mul-sub, mul-pos, mul-mul-mul_comm}
 use lib.IntN.{ℤ}
 use lib.Dec.{T, leb, ltb, eqb, ltb→lt, leb→le, le→leb, eqb→eq, eqb_refl, nltb→le}
-use lib.Ieee.{Float, nan, inf, fin, Format, binary64, prec, emax, low, up, down, odd, units, round, add, sub, sum, mul, div, lt, le}
+use lib.Ieee.{Float, nan, inf, fin, Format, binary64, prec, emax, low, up, down, odd, units, round, add, sub, sum, mul, div, le}
 use lib.Ieee.Fits.{down_pos, round_is}
 use lib.Ieee.Exact.{HasValue}
 use lib.Ieee.Order.{transfer}

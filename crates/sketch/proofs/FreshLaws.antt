@@ -9,7 +9,7 @@ use lib.ListN.{length, replicate}
 use borrow.Author.Tests.{eq-eqb, ne_eqb, eqb-true, not-false}
 use Rattle.refusal.specs.declared.Verdict.{Verdict}
 use Rattle.refusal.specs.declared.Verdict.TheVariants.{Accepted, Refused}
-use Rattle.refusal.specs.Refusals.{is_accepted, refuse, when_accepted}
+use Rattle.refusal.specs.Refusals.{is_accepted, refuse}
 use Rattle.refusal.proofs.VerdictLaws.{refused_leaves, turned_back_lem, let_pass, not_refused}
 use Rattle.refusal.proofs.GateLaws.{gate_open, gate_shut, gate_passed}
 use Rattle.rounding.specs.declared.Rounding.{Rounding}
@@ -20,7 +20,7 @@ use Rattle.clock.specs.declared.SubWindowClock.{SubWindowClock}
 use Rattle.clock.specs.Clock.{start_of}
 use Rattle.sketch.specs.declared.MicroCm.{MicroCm}
 use Rattle.sketch.specs.declared.SketchAnswer.{SketchAnswer}
-use Rattle.sketch.specs.Sketch.{World, fresh_sketch, fresh_grid, grid_bytes}
+use Rattle.sketch.specs.Sketch.{fresh_sketch, fresh_grid, grid_bytes}
 use Rattle.sketch.specs.Refusals.{refuse_settings, sketch_outcome, no_sketch, world, fresh_call, undrawn}
 use Rattle.sketch.proofs.SettingsLaws.{GoodSettings, good_settings}
 use Rattle.sketch.proofs.SketchGates.{settings_of, settings_gate}

@@ -1,7 +1,7 @@
 -- What a call loses, by the steps that it makes; and what it does not lose. Assumes nothing.
 use Prim.Native.Nat.{ℕ, ◌+◌, ◌-◌, ◌*◌, ◌<◌}
 use mathlib.Core.Path.{◌≡◌, refl, ap, ◌∙◌}
-use mathlib.Core.Bool.{true, false, not}
+use mathlib.Core.Bool.{true, false}
 use mathlib.Core.List.{List}
 use lib.ListN.{length}
 use native.Mathlib.Nat.{zero-add}
@@ -32,7 +32,6 @@ use Rattle.sketch.proofs.SketchGates.{sketch_gate}
 use Rattle.sketch.proofs.ReadyLaws.{ready_of}
 use Rattle.sketch.proofs.GridLaws.{cell_length}
 use Rattle.sketch.proofs.MergeAccepted.{accepted_ready, accepted_judged, accepted_other}
-use Rattle.sketch.proofs.ItemLoss.{each_lost}
 use Rattle.sketch.proofs.ZoomInLaws.{key_accepted}
 use Rattle.sketch.proofs.WorldLoss.{Set, set_of, some, inside, cell_fit, moved_lost, empty_moves, moved_empty, moved_set, below_empty, recorded_lost, empty_records, recorded_empty, recorded_set}
 

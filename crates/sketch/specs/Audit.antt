@@ -2,7 +2,6 @@
 use Rattle.std.specs.Prelude.{ℕ, ◌-◌, cond, List, [], ◌∷◌}
 use Rattle.laws.specs.Sums.{largest}
 use Rattle.cell.specs.Cell.{zoom_of, sound_of}
-use Rattle.refusal.specs.declared.Verdict.TheVariants.{Unsound}
 use Rattle.sketch.specs.declared.MicroCm.{MicroCm}
 use Rattle.sketch.specs.declared.Finding.{Finding}
 use Rattle.sketch.specs.declared.Finding.TheVariants as finding

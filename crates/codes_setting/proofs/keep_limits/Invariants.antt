@@ -1,0 +1,11 @@
+-- `keep_limits`: what stands before i is copied. Assumes nothing.
+use Prim.Native.Nat.{◌-◌}
+use lib.ListN.{length}
+use Rattle.codes_setting.proofs.SetLaws.{Copying}
+use Rattle.codes_setting.proofs.keep_limits.Given as goal
+
+abbrev pub invariant-loop-i : goal.invariant-loop-i
+invariant-loop-i l = Copying l.initial.kept l.limits l.kept l.i
+
+abbrev pub decreases-loop-i : goal.decreases-loop-i
+decreases-loop-i l = length l.limits - l.i

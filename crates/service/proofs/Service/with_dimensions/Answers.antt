@@ -1,0 +1,7 @@
+-- `with_dimensions`: the fresh start of the sketch, and no codes. Assumes nothing.
+use Rattle.service.proofs.ServiceLaws.{start_served}
+use borrow.Author.Rules.{rules}
+use Rattle.service.proofs.Service.with_dimensions.Goals as goal
+
+pub returns : goal.returns
+returns c = search (start_served, rules)
