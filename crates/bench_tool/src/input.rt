@@ -100,8 +100,7 @@ fn answered<R: Files + Print + Alloc>(
 
 fn goes_on<R>(out: &Answers<R>, seen: Seen) -> bool {
     match seen {
-        Seen::Line => !print::stopped(out),
         Seen::Last => false,
-        _ => true,
+        _ => !print::stopped(out),
     }
 }
