@@ -20,9 +20,9 @@ fn main(rt: HostRuntime) -> io::Result<()> {
     // A line has to fit this, its line end too.
     let mut lines = [0u8; 65536];
     // The grids of a to d, 1 MiB each.
-    let mut grids = [0u8; 4194304];
+    let mut grids = vec![in rt.alloc(); 0u8; 4194304]?;
     // The store of a grid of 1 MiB has 1,065,984 bytes; the one byte more shows a file that is longer.
-    let mut store = [0u8; 1065985];
+    let mut store = vec![in rt.alloc(); 0u8; 1065985]?;
     // The watched codes of a to d: 8,192 columns and 64 limits each, as the core keeps them.
     let mut columns = [0u32; 32768];
     let mut limits = [0u64; 256];

@@ -52,7 +52,7 @@ fn replay_sketches<R: Files + Print + Eprint + Alloc>(rt: &R, name: &str) -> io:
     };
     let mut file = file;
     // As large as the format lets the grids of the two slots be.
-    let mut first = [0u8; 524288];
+    let mut first = vec![in rt.alloc(); 0u8; 524288]?;
     let mut second = [0u8; 16416];
     let tally = sketches::replay(rt, &mut file, &mut first, &mut second)?;
     close(rt, file, name, tally)
