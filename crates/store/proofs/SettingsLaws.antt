@@ -1,7 +1,6 @@
 -- Settings that pass have numbers that the header's fields hold, and few enough blocks to number.
 use Prim.Native.Nat.{◌+◌, ◌*◌, ◌^◌, ◌≤◌, ◌<◌}
 use mathlib.Core.Path.{◌≡◌}
-use lib.ListN.{length}
 use native.Mathlib.Omega.{arith}
 use native.Mathlib.Nat.{mul-le-mul}
 use Rattle.refusal.specs.declared.Verdict.TheVariants.{Accepted}

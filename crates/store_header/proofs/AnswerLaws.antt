@@ -4,18 +4,14 @@ use mathlib.Core.Path.{◌≡◌, refl, sym, ap, ◌∙◌}
 use mathlib.Core.Bool.{Bool, true, false, not}
 use mathlib.Core.List.{List}
 use lib.Dec.{eqb}
-use borrow.Author.Tests.{eq-eqb, ne_eqb}
 use Rattle.refusal.specs.declared.Verdict.{Verdict}
 use Rattle.refusal.specs.declared.Verdict.TheVariants.{Accepted, Unsound}
 use Rattle.refusal.specs.declared.Verdict.TheVariants as verdict
 use Rattle.refusal.specs.Refusals.{number_of, is_accepted, refuse, outside, when_accepted}
 use Rattle.refusal.proofs.VerdictLaws.{refused_leaves, turned_back_lem, let_pass}
-use Rattle.refusal.proofs.GateLaws.{gate_open, gate_shut}
-use Rattle.rounding.specs.Refusals.{refuse_state}
 use Rattle.clock.specs.Clock.{length_of}
 use Rattle.sketch.specs.declared.MicroCm.{MicroCm}
 use Rattle.sketch.specs.Refusals.{grid_fits, numbers_verdict}
-use Rattle.sketch.proofs.SketchGates.{settings_of, settings_gate}
 use Rattle.store_header.specs.declared.Header.TheVariants.{Sketch, Refused}
 use Rattle.store_header.specs.Header.{sketch_in}
 use Rattle.store_header.specs.Refusals.{wrong_form, header_verdict, header_in}

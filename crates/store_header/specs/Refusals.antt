@@ -1,10 +1,8 @@
 -- Document 01, "Turning a call back", for the header: what the numbers of a sketch are refused by, and what a header tells.
 use Rattle.std.specs.Prelude.{ℕ, Bool, not, ◌&&◌, ◌||◌, List, ltb, eqb, drop}
 use Rattle.refusal.specs.declared.Verdict.{Verdict}
-use Rattle.refusal.specs.declared.Verdict.TheVariants as verdict
 use Rattle.refusal.specs.Refusals.{number_of, when_accepted}
 use Rattle.refusal.specs.Causes.{Cause, cause, refuse_by}
-use Rattle.sketch.specs.declared.MicroCm.{MicroCm}
 use Rattle.sketch.specs.Refusals.{numbers_verdict}
 use Rattle.store_bytes.specs.Fill.{all_zero}
 use Rattle.store_header.specs.declared.Header.{Header}

@@ -2,7 +2,7 @@
 use Prim.Native.Nat.{ℕ}
 use mathlib.Core.Path.{◌≡◌, refl, sym, ap, ◌∙◌}
 use mathlib.Core.List.{List, [], ◌∷◌}
-use lib.ListN.{length, take}
+use lib.ListN.{length}
 use borrow.Author.Tests.{eq-eqb}
 use Rattle.refusal.specs.declared.Verdict.{Verdict}
 use Rattle.refusal.specs.declared.Verdict.TheVariants.{Accepted}
@@ -14,9 +14,8 @@ use Rattle.sketch.specs.Sketch.{grid_bytes}
 use Rattle.store_header.specs.Header.{sketch_in}
 use Rattle.store_header.specs.Causes.{header_causes}
 use Rattle.store_header.proofs.CauseTheorems.{header_calls}
-use Rattle.store.specs.Store.{store_length}
 use Rattle.store.specs.Refusals.{header_payload, other_length, refuse_blocks, refuse_length, load_verdict, load_call}
-use Rattle.store.proofs.LoadLaws.{sketch_of, Loadable, accepted_loadable, header_accepted}
+use Rattle.store.proofs.LoadLaws.{Loadable, accepted_loadable, header_accepted}
 use Rattle.store_shape.specs.Shape.{shaped, shape_verdict, shape_call, shape_causes, ShapeCalls}
 
 told_is : (store : List ℕ) → shape_verdict store ≡ first_of (shape_causes store)
