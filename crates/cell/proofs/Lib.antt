@@ -19,6 +19,7 @@ pub mod CrossingLaws
 pub mod LengthLaws
 pub mod PixelLaws
 pub mod LargestLaws
+mod ZoomInFalls
 pub mod ZoomInLaws
 pub mod ZoomInWorked
 pub mod MergeLaws
