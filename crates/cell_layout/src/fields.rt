@@ -60,7 +60,7 @@ pub fn set_zoom(cell: &mut [u8], t: usize, zoom: u8)
     cell[at] = zoom;
 }
 
-// A byte as a number: what is read by it needs no proof that it fits.
+// A byte as a number. It stands while crate cell_merging_sums calls it: `u32::from` says as much.
 pub fn wide(x: u8) -> u32
     ensures value { result ≡ x }
     ensures upper_bound { result < 256 }
@@ -73,10 +73,7 @@ pub fn shutter(cell: &[u8], t: usize) -> u32
     ensures { result ≡ shutter_of t cell.now }
 {
     let at = t + 3;
-    wide(cell[at])
-        + wide(cell[at + 1]) * 256
-        + wide(cell[at + 2]) * 65536
-        + wide(cell[at + 3]) * 16777216
+    u32::from_le_bytes([cell[at], cell[at + 1], cell[at + 2], cell[at + 3]])
 }
 
 pub fn set_shutter(cell: &mut [u8], t: usize, shutter: u32)
@@ -84,19 +81,12 @@ pub fn set_shutter(cell: &mut [u8], t: usize, shutter: u32)
     ensures { cell.new ≡ with_shutter t shutter cell.old }
 {
     let at = t + 3;
-    cell[at] = (shutter % 256) as u8;
-    cell[at + 1] = (shutter / 256 % 256) as u8;
-    cell[at + 2] = (shutter / 65536 % 256) as u8;
-    cell[at + 3] = (shutter / 16777216 % 256) as u8;
+    cell[at..at + 4].copy_from_slice(&shutter.to_le_bytes());
 }
 
 // Every byte becomes 0: a fresh grid, the pixels after a far jump.
 pub fn zero_all(bytes: &mut [u8])
     ensures { bytes.new ≡ replicate (length bytes.old) 0 }
 {
-    let mut i: usize = 0;
-    while i < bytes.len() {
-        bytes[i] = 0;
-        i += 1;
-    }
+    bytes.fill(0);
 }

@@ -1,7 +1,7 @@
--- `layout::shutter`: four bytes below 256 make a number that fits, and it is the one that `shutter_read` names. Assumes nothing.
+-- `layout::shutter`: the four bytes as a number are the one that the definition names. Assumes nothing.
 use Rattle.cell.proofs.LayoutLaws.{shutter_read}
-use borrow.Author.Rules.{rules}
+use mathlib.Core.Path.{refl, ◌∙◌}
 use Rattle.cell_layout.proofs.fields.shutter.Goals as goal
 
 pub returns : goal.returns
-returns c = search (shutter_read, rules)
+returns c = c.from_le_bytes.ensures ∙ shutter_read _ _ _ _ _ _ refl refl refl refl
