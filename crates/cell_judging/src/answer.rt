@@ -12,9 +12,7 @@ pub fn turned_back(verdict: Verdict, rounding: Rounding) -> CellAnswer
 {
     CellAnswer {
         verdict,
-        rounding,
-        draws: 0,
-        lost: 0,
+        ..done(still(rounding.state))
     }
 }
 
@@ -27,5 +25,16 @@ pub fn done(drawn: Drawn) -> CellAnswer
         rounding: Rounding { state: drawn.state },
         draws: drawn.draws,
         lost: drawn.lost,
+    }
+}
+
+// What a worker returns that made no draw and lost nothing: the random state is as it was.
+pub fn still(state: u64) -> Drawn
+    ensures { result ≡ record { state = state; draws = 0; lost = 0 } }
+{
+    Drawn {
+        state,
+        draws: 0,
+        lost: 0,
     }
 }

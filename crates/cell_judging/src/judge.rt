@@ -14,10 +14,7 @@ use refusal::Verdict;
 pub fn base(c: u32) -> Verdict
     ensures { result ≡ max_zoom_verdict c }
 {
-    if c < 2 {
-        return Verdict::Refused(2);
-    }
-    if c > 256 {
+    if !(2..=256).contains(&c) {
         return Verdict::Refused(2);
     }
     Verdict::Accepted
@@ -27,10 +24,7 @@ pub fn base(c: u32) -> Verdict
 pub fn settings(params: MicroParams) -> Verdict
     ensures { result ≡ params_verdict params }
 {
-    if params.t < 1 {
-        return Verdict::Refused(1);
-    }
-    if params.t > 4096 {
+    if !(1..=4096).contains(&params.t) {
         return Verdict::Refused(1);
     }
     base(params.c)
@@ -68,7 +62,7 @@ pub fn sound(cell: &[u8], t: usize, c: u32) -> bool
 {
     let zoom = fields::zoom(cell, t);
     let shutter = fields::shutter(cell, t);
-    fields_sound(zoom, shutter as u64, c)
+    fields_sound(zoom, u64::from(shutter), c)
 }
 
 // A cell judged: 1, 2, 5, 6, 14. What was read for it goes along, so that no call reads it again.
@@ -87,7 +81,7 @@ pub fn held(cell: &[u8], params: MicroParams, state: u64) -> Held
     let shutter = fields::shutter(cell, t);
     let zoom = fields::zoom(cell, t);
     let unit = power::unit_or_zero(params.c, zoom);
-    if (shutter as u64) < unit {
+    if u64::from(shutter) < unit {
         return Held {
             verdict,
             shutter,

@@ -11,14 +11,7 @@ pub fn unit(c: u32, z: u8) -> u64
     if c == 2 {
         return 1 << z;
     }
-    let base = c as u64;
-    let mut power: u64 = 1;
-    let mut i: u8 = 0;
-    while i < z {
-        power = power * base;
-        i += 1;
-    }
-    power
+    u64::from(c).pow(u32::from(z))
 }
 
 // c^z, and 0 where z is above max_zoom: no shutter is below that, so one comparison tells whether a cell is sound.
@@ -27,21 +20,15 @@ pub fn unit_or_zero(c: u32, z: u8) -> u64
     ensures { result ≡ unit_or_zero c z }
 {
     if c == 2 {
-        if z <= 31 {
-            return unit(2, z);
-        }
-        return 0;
+        return if z <= 31 { unit(2, z) } else { 0 };
     }
-    let base = c as u64;
+    // A loop of its own: `checked_pow` divides, and a test against `max_zoom` is a jump through a table, for each cell judged.
     let mut power: u64 = 1;
-    let mut i: u8 = 0;
-    while i < z {
-        let next = power * base;
-        if next > 0xFFFF_FFFF {
+    for _ in 0..z {
+        power *= u64::from(c);
+        if power > 0xFFFF_FFFF {
             return 0;
         }
-        power = next;
-        i += 1;
     }
     power
 }
@@ -67,6 +54,6 @@ pub fn max_zoom(c: u32) -> u8
         41..=84 => 5,
         85..=255 => 4,
         256 => 3,
-        _ => 0,
+        _ => unreachable!(),
     }
 }

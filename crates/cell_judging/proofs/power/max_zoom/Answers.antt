@@ -1,7 +1,5 @@
--- `power::max_zoom`: each arm is a line of the card. The bases that have a line to themselves are asked for first, 256 among them, and none is
--- left for the last arm. Assumes nothing.
+-- `power::max_zoom`: each arm is a line of the card. The bases that have a line to themselves are asked for first, 256 among them. Assumes nothing.
 use Rattle.cell.proofs.CardLaws.{on_card}
-use Rattle.cell.specs.Cell.{max_zoom}
 use Prim.Native.Nat.{ℕ, ◌≤◌}
 use mathlib.Core.Path.{◌≡◌}
 use native.Mathlib.Omega.{arith}
@@ -12,9 +10,6 @@ use Rattle.cell_judging.proofs.power.max_zoom.Goals as goal
 module _ (c : ℕ) (low : 2 ≤ c) where
   beyond-alone : (c ≡ 2 → ⊥) → (c ≡ 3 → ⊥) → (c ≡ 4 → ⊥) → (c ≡ 5 → ⊥) → (c ≡ 6 → ⊥) → (c ≡ 7 → ⊥) → 8 ≤ c
   beyond-alone a b d e f g = omega arith
-
-none_left : (c z : ℕ) → c ≤ 256 → (c ≡ 256 → ⊥) → 256 ≤ c → z ≡ max_zoom c
-none_left c z high other far = absurd (other (omega arith))
 
 pub returns-in-2 : goal.returns-in-2
 returns-in-2 c = on_card 0 _ (omega arith) (search rules) (search rules)
@@ -57,6 +52,3 @@ returns-in-41-to-84 c = on_card 11 _ (omega arith) (search rules) (search rules)
 
 pub returns-in-85-to-255 : goal.returns-in-85-to-255
 returns-in-85-to-255 c = on_card 12 _ (omega arith) (search rules) (search rules)
-
-pub returns-in_default-2 : goal.returns-in_default-2
-returns-in_default-2 c = search (none_left, rules)

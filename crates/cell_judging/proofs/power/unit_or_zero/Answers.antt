@@ -8,20 +8,24 @@ unit-requires c = (search rules, search rules, search (two_fits, rules))
 pub returns-then-z-le31 : goal.returns-then-z-le31
 returns-then-z-le31 c = search (two_unit, rules)
 
-pub returns-then-c-eq2 : goal.returns-then-c-eq2
-returns-then-c-eq2 c = search (over_limit, rules)
+pub returns-else-z-le31 : goal.returns-else-z-le31
+returns-else-z-le31 c = search (over_limit, rules)
 
-pub loop-i-init : goal.loop-i-init
-loop-i-init c = (search (climbing_begin, rules), search rules)
+pub loop-init : goal.loop-init
+loop-init c = search (climbing_begin, rules)
 
-pub overflow_mul-next : goal.overflow_mul-next
-overflow_mul-next c = record { fits = search (next_short, rules) }
+pub overflow_mul-power : goal.overflow_mul-power
+overflow_mul-power c = record { fits = rw c.from-power.ensures (search (next_short, rules)) }
 
-pub returns-then-next-gt4294967295 : goal.returns-then-next-gt4294967295
-returns-then-next-gt4294967295 c = search (climbing_over, rules)
+pub returns-then-power-gt4294967295 : goal.returns-then-power-gt4294967295
+returns-then-power-gt4294967295 c =
+    let over = rw c.from-power.ensures at c.if-power-gt4294967295.true in
+    search (climbing_over, rules)
 
-pub loop-i-preserved : goal.loop-i-preserved
-loop-i-preserved c = (search (climbing_on, rules), search rules)
+pub loop-preserved : goal.loop-preserved
+loop-preserved c =
+    let fits = rw c.from-power.ensures at c.if-power-gt4294967295.false in
+    rw c.from-power.ensures (search (climbing_on, rules))
 
 pub returns : goal.returns
 returns c = search (climbing_done, rules)
