@@ -1,9 +1,8 @@
 -- The ways out of the calls that only read: turned back by the verdict, or accepted and told. Assumes nothing.
 use Prim.Native.Nat.{ℕ, ◌*◌, ◌-◌, ◌^◌, ◌≤◌, ◌<◌}
-use mathlib.Core.Path.{◌≡◌, refl, sym, ◌∙◌}
+use mathlib.Core.Path.{◌≡◌, refl}
 use mathlib.Core.Bool.{Bool, true, false, not}
 use mathlib.Core.List.{List}
-use lib.ListN.{length}
 use lib.Dec.{T}
 use lib.IntN.{pos}
 use lib.Ieee.{binary64, of_bits, in_float}
@@ -14,13 +13,12 @@ use Rattle.laws.proofs.FigureLaws.{castable, zero_is}
 use Rattle.refusal.specs.declared.Verdict.{Verdict}
 use Rattle.refusal.specs.declared.Verdict.TheVariants.{Accepted}
 use Rattle.refusal.specs.Refusals.{is_accepted}
-use Rattle.refusal.proofs.VerdictLaws.{refused_leaves, not_refused, inside_range, turned_back_lem, let_pass}
+use Rattle.refusal.proofs.VerdictLaws.{refused_leaves, turned_back_lem, let_pass}
 use Rattle.cell.specs.declared.MicroParams.{MicroParams}
 use Rattle.cell.specs.declared.Held.{Held}
-use Rattle.cell.specs.Cell.{depth_of, slot_of, pixel_of, zoom_of, shutter_of, unit_of, max_zoom}
+use Rattle.cell.specs.Cell.{slot_of, pixel_of, zoom_of, shutter_of, unit_of, max_zoom}
 use Rattle.cell.specs.Refusals.{max_zoom_verdict, max_zoom_call, zoom_call, shutter_call, pixel_call}
 use Rattle.cell.specs.Workers.{Judged, HeldOf}
-use Rattle.cell.proofs.CellLaws.{slot_read}
 use Rattle.cell.proofs.SoundLaws.{sound_unit}
 
 -- A BASE
@@ -30,15 +28,6 @@ module _ (c : ℕ) (v : Verdict) (judged : v ≡ max_zoom_verdict c) (ok : Bool)
   max_zoom_turned h = rw (← judged, refused_leaves v (max_zoom c) 0 (turned_back_lem v ok asked h)) refl
 
   module _ (h : not ok ≡ false) where
-    base_inside : (2 ≤ c) × (c ≤ 256)
-    base_inside = inside_range 2 256 c (not_refused 2 _ Accepted (sym judged ∙ let_pass v ok asked h)).0
-
-    pub base_low : 2 ≤ c
-    base_low = base_inside.0
-
-    pub base_high : c ≤ 256
-    base_high = base_inside.1
-
     pub max_zoom_done : (z : ℕ) → z ≡ max_zoom c → record { verdict = v; zoom = z } ≡ max_zoom_call c
     unfolding max_zoom_call
     max_zoom_done z e = rw (← judged, let_pass v ok asked h, e) refl
@@ -67,12 +56,6 @@ module _ (p : MicroParams) (b : List ℕ) (r : Held) (held : HeldOf p b 1 r) (ok
     read : Judged p.t p.c b r.shutter r.unit
     read = held.judged accepted
 
-    pub read_t : p.t ≤ 4096
-    read_t = read.fit.t_high
-
-    pub read_size : length b ≡ depth_of p.t
-    read_size = read.fit.size_is
-
     pub zoom_done : (z : ℕ) → z ≡ zoom_of p.t b → record { verdict = r.verdict; zoom = z } ≡ zoom_call p b
     unfolding zoom_call
     zoom_done z e = rw (← held.verdict_is, accepted, e) refl
@@ -82,9 +65,6 @@ module _ (p : MicroParams) (b : List ℕ) (r : Held) (held : HeldOf p b 1 r) (ok
     shutter_done = rw (← held.verdict_is, accepted, read.shutter_is) refl
 
     module _ (n slot : ℕ) (here : slot ≡ slot_of p.t n) where
-      pub pixel_inside : slot < length b
-      pixel_inside = omega (arith, slot_read p.t n slot here, read.fit.size_is)
-
       pub pixel_done : (pixel : ℕ) → pixel ≡ pixel_of b slot → record { verdict = r.verdict; items = figure (r.unit * pixel) } ≡ pixel_call p n b
       unfolding pixel_call
       pixel_done pixel e = rw (← held.verdict_is, accepted, e, here, read.unit_is) refl

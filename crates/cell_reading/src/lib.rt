@@ -115,9 +115,8 @@ pub fn scaled_pixel(cell: &[u8], params: MicroParams, n: u64) -> PixelAnswer
         };
     }
     let slot = fields::slot(params.t, n);
-    let pixel = fields::wide(cell[slot]);
     PixelAnswer {
         verdict,
-        items: (held.unit * (pixel as u64)) as f64,
+        items: (held.unit * u64::from(cell[slot])) as f64,
     }
 }

@@ -1,16 +1,10 @@
 -- `scaled_pixel`: a unit of four bytes times a byte is below 2 ^ 53, so its f64 is exact. Assumes nothing.
-use Rattle.cell_reading.proofs.ReadingCalls.{pixel_turned, read_t, pixel_inside, items_fit, items_exact, pixel_done}
+use Rattle.cell_reading.proofs.ReadingCalls.{pixel_turned, items_fit, items_exact, pixel_done}
 use borrow.Author.Rules.{rules}
 use Rattle.cell_reading.proofs.scaled_pixel.Goals as goal
 
 pub returns-then-not-accepted : goal.returns-then-not-accepted
 returns-then-not-accepted c = search (pixel_turned, rules)
-
-pub slot-slot-requires : goal.slot-slot-requires
-slot-slot-requires c = search (read_t, rules)
-
-pub bounds-cell-slot : goal.bounds-cell-slot
-bounds-cell-slot c = search (pixel_inside, rules)
 
 pub overflow_mul-result : goal.overflow_mul-result
 overflow_mul-result c = record { fits = search (items_fit, rules) }
