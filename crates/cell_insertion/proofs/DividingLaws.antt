@@ -30,7 +30,6 @@ pub record Dividing (c slot : ℕ) (px₀ : List ℕ) (σ : ℕ) (px : List ℕ)
   pub done : divide_each c (set px₀ slot 256) σ ≡ behind (take i px) n (divide_each c (drop i (set px₀ slot 256)) s)
   pub rest : drop i px ≡ drop i px₀
   pub same : length px ≡ length px₀
-  pub most : i ≤ length px
   pub few : n ≤ i
 
 counted_at : (l : List ℕ) (slot i : ℕ) → i < length l → get_or (set l slot 256) i 0 ≡ counted (eqb i slot) (get_or l i 0)
@@ -51,7 +50,7 @@ divide_none c l σ i h = rw (drop_of_length-le l h) refl
 
 module _ (c slot : ℕ) (px₀ : List ℕ) (σ : ℕ) where
   pub dividing_begin : Dividing c slot px₀ σ px₀ σ 0 0
-  dividing_begin = record { done = simp zero-add; rest = refl; same = refl; most = omega arith; few = omega arith }
+  dividing_begin = record { done = simp zero-add; rest = refl; same = refl; few = omega arith }
 
   module _ (px : List ℕ) (s n i : ℕ) (w : Dividing c slot px₀ σ px s n i) where
     left : i < length px → get_or (set px₀ slot 256) i 0 ≡ counted (eqb i slot) (get_or px i 0)
@@ -70,11 +69,11 @@ module _ (c slot : ℕ) (px₀ : List ℕ) (σ : ℕ) where
               ∙ rw (divide_first c (set px₀ slot 256) s i inside, left h, ← e, add-one i, take-suc-set px i d.value h) (simp (append_assoc, add_assoc));
           rest = drop-set-lt (i + 1) px i d.value next ∙ sym (drop-drop 1 i px) ∙ ap (λ (l : List ℕ). drop 1 l) w.rest ∙ drop-drop 1 i px₀;
           same = length-set px i d.value ∙ w.same;
-          most = rw (length-set px i d.value) (omega arith);
           few = omega (arith, w.few);
         }
 
-    pub dividing_end : length px ≤ i → made px s n 0 ≡ divide_each c (set px₀ slot 256) σ
+    pub dividing_end : length px₀ ≤ i → made px s n 0 ≡ divide_each c (set px₀ slot 256) σ
     dividing_end h =
-        let over : length (set px₀ slot 256) ≤ i = rw (length-set px₀ slot 256, ← w.same) h in
-        sym (w.done ∙ rw (divide_none c (set px₀ slot 256) s i over, take_all i px h) (simp (append-nil, add-zero)))
+        let over : length (set px₀ slot 256) ≤ i = rw (length-set px₀ slot 256) h in
+        let all : length px ≤ i = rw w.same h in
+        sym (w.done ∙ rw (divide_none c (set px₀ slot 256) s i over, take_all i px all) (simp (append-nil, add-zero)))

@@ -1,10 +1,9 @@
 -- The ways out of the public call: turned back by the verdict, or accepted and done. Assumes nothing.
-use Prim.Native.Nat.{ℕ, ◌≤◌}
+use Prim.Native.Nat.{ℕ}
 use mathlib.Core.Path.{◌≡◌}
 use mathlib.Core.Bool.{Bool, true, false, not}
 use mathlib.Core.List.{List}
 use Rattle.refusal.specs.Refusals.{is_accepted}
-use Rattle.refusal.proofs.VerdictLaws.{let_pass}
 use Rattle.rounding.specs.declared.Rounding.{Rounding}
 use Rattle.cell.specs.declared.MicroParams.{MicroParams}
 use Rattle.cell.specs.declared.CellAnswer.{CellAnswer}
@@ -12,7 +11,7 @@ use Rattle.cell.specs.declared.Drawn.{Drawn}
 use Rattle.cell.specs.declared.Held.{Held}
 use Rattle.cell.specs.Insertion.{insert_of}
 use Rattle.cell.specs.Refusals.{cell_outcome, insert_call}
-use Rattle.cell.specs.Workers.{Judged, HeldOf, turned_back, done_with, step_of}
+use Rattle.cell.specs.Workers.{HeldOf, turned_back, done_with, step_of}
 use Rattle.cell.proofs.CallLaws.{call_turned, call_done}
 
 module _ (p : MicroParams) (n : ℕ) (b : List ℕ) (ρ : Rounding) (r : Held) (held : HeldOf p b ρ.state r)
@@ -22,12 +21,6 @@ module _ (p : MicroParams) (n : ℕ) (b : List ℕ) (ρ : Rounding) (r : Held) (
   insert_turned h a e = call_turned r.verdict _ held.verdict_is ok asked (insert_of p.t p.c n b ρ.state) b ρ a h e
 
   module _ (h : not ok ≡ false) where
-    pub insert_judged : Judged p.t p.c b r.shutter r.unit
-    insert_judged = held.judged (let_pass r.verdict ok asked h)
-
-    pub insert_few : p.t ≤ 4096
-    insert_few = insert_judged.fit.t_high
-
     pub insert_done : (l : List ℕ) (d : Drawn) (a : CellAnswer) → step_of l d ≡ insert_of p.t p.c n b ρ.state → a ≡ done_with d
         → cell_outcome l a ≡ insert_call p n b ρ.state
     unfolding insert_call

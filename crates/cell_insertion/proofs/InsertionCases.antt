@@ -12,7 +12,7 @@ use Rattle.cell.specs.declared.Drawn.{Drawn}
 use Rattle.cell.specs.Cell.{pixels_of, slot_of, pixel_of, zoom_of, shutter_of, unit_of, with_pixel, with_zoom, with_shutter, max_zoom, sound_of}
 use Rattle.cell.specs.Insertion.{divide_each, pixel_step, zoom_out_of, dropped, credit_of, insert_of}
 use Rattle.cell.specs.Workers.{Fit, Judged, step_of}
-use Rattle.cell.proofs.CellLaws.{slot_read, with_zoom_pixels, with_shutter_none}
+use Rattle.cell.proofs.CellLaws.{with_zoom_pixels, with_shutter_none}
 use Rattle.cell.proofs.InsertionLaws.{credit_gained}
 use Rattle.cell.proofs.SoundLaws.{sound_flat, sound_unit}
 
@@ -57,9 +57,6 @@ module _ (t c n : ℕ) (b : List ℕ) (σ : ℕ) (fit : Fit t c (length b)) (sou
 
   pub flat_gained : pixel_of b slot < 255 → still (with_pixel slot (pixel_of b slot + 1) b) σ ≡ insert_of t c n b σ
   flat_gained h = insert_flat (with_pixel slot (pixel_of b slot + 1) b) (record { state = σ; draws = 0; lost = 0 }) (credit_gained t c slot b σ h)
-
-pub slot_in_cell : (t c n : ℕ) (b : List ℕ) → Fit t c (length b) → (slot : ℕ) → slot ≡ slot_of t n → slot < length b
-slot_in_cell t c n b fit slot es = omega (arith, slot_read t n slot es, fit.size_is)
 
 pub next_shutter_fits : (t c : ℕ) (b : List ℕ) (s unit : ℕ) → Judged t c b s unit → s + 1 < unit → s + 1 < 2 ^ 32
 next_shutter_fits t c b s unit j h = omega (arith, j.unit_is, sound_unit t c b j.sound j.fit.c_low)

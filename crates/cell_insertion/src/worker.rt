@@ -18,7 +18,7 @@ fn divide_credited(c: u32, state: u64) -> Divided
     requires { 2 ≤ c }
     ensures { result ≡ rounded_div 256 c state }
 {
-    rounding::worker::divide(256, c as u64, state)
+    rounding::worker::divide(256, u64::from(c), state)
 }
 
 // A pixel divided by c with rounding.
@@ -30,7 +30,7 @@ fn divide_pixel(pixel: u8, credited: bool, c: u32, state: u64) -> Divided
     if credited {
         return divide_credited(c, state);
     }
-    rounding::worker::divide(pixel as u64, c as u64, state)
+    rounding::worker::divide(u64::from(pixel), u64::from(c), state)
 }
 
 // Every pixel in index order.
@@ -41,20 +41,17 @@ fn divide_pixels(pixels: &mut [u8], c: u32, slot: usize, state: u64) -> Drawn
 {
     let mut after = state;
     let mut draws: u32 = 0;
-    let mut i: usize = 0;
-    while i < pixels.len() {
-        let divided = divide_pixel(pixels[i], i == slot, c, after);
-        pixels[i] = divided.value as u8;
+    for (i, pixel) in pixels.iter_mut().enumerate() {
+        let divided = divide_pixel(*pixel, i == slot, c, after);
+        *pixel = divided.value as u8;
         after = divided.state;
-        draws = draws + divided.draws;
-        i += 1;
+        draws += divided.draws;
     }
     // A raise rounds, and loses nothing.
-    let lost: u32 = 0;
     Drawn {
         state: after,
         draws,
-        lost,
+        lost: 0,
     }
 }
 
@@ -72,9 +69,8 @@ fn zoom_out(cell: &mut [u8], t: usize, c: u32, slot: usize, state: u64) -> Drawn
         return divide_pixels(&mut cell[..pixels], c, slot, state);
     }
     Drawn {
-        state,
-        draws: 0,
         lost: 1,
+        ..answer::still(state)
     }
 }
 
@@ -87,11 +83,7 @@ pub fn credit_pixel(cell: &mut [u8], t: usize, c: u32, slot: usize, state: u64) 
     let pixel = cell[slot];
     if pixel < 255 {
         cell[slot] = pixel + 1;
-        return Drawn {
-            state,
-            draws: 0,
-            lost: 0,
-        };
+        return answer::still(state);
     }
     zoom_out(cell, t, c, slot, state)
 }
@@ -112,13 +104,9 @@ pub fn insert_judged(
     ensures result_after { step_of cell.new result ≡ insert_of t c n cell.old state }
     ensures draws_bound { result.draws ≤ t + 2 }
 {
-    if (shutter as u64) + 1 < unit {
+    if u64::from(shutter) + 1 < unit {
         fields::set_shutter(cell, t, shutter + 1);
-        return Drawn {
-            state,
-            draws: 0,
-            lost: 0,
-        };
+        return answer::still(state);
     }
     fields::set_shutter(cell, t, 0);
     credit_pixel(cell, t, c, slot, state)
@@ -136,11 +124,7 @@ pub fn insert(cell: &mut [u8], t: usize, c: u32, n: u64, slot: usize, state: u64
         let pixel = cell[slot];
         if pixel < 255 {
             cell[slot] = pixel + 1;
-            return Drawn {
-                state,
-                draws: 0,
-                lost: 0,
-            };
+            return answer::still(state);
         }
         return zoom_out(cell, t, c, slot, state);
     }

@@ -4,14 +4,8 @@ use native.Mathlib.Omega.{arith}
 use borrow.Author.Rules.{rules}
 use Rattle.cell_insertion.proofs.worker.divide_pixel.Goals as goal
 
-pub returns-then-credited-clause-value : goal.returns-then-credited-clause-value
-returns-then-credited-clause-value c = rw c.if-credited.true c.divide_credited.ensures
-
 pub returns-then-credited-clause-value_bound : goal.returns-then-credited-clause-value_bound
 returns-then-credited-clause-value_bound c = divided_bounds 256 _ _ _ (omega arith) (search rules) c.divide_credited.ensures
-
-pub returns-clause-value : goal.returns-clause-value
-returns-clause-value c = rw c.if-credited.false c.divide.ensures
 
 pub returns-clause-value_bound : goal.returns-clause-value_bound
 returns-clause-value_bound c = divided_bounds _ _ _ _ (omega arith) (search rules) c.divide.ensures

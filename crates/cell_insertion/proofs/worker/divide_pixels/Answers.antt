@@ -1,14 +1,9 @@
 use Rattle.cell_insertion.proofs.DividingLaws.{dividing_begin, dividing_on, dividing_end}
-use lib.ListN.{length-set}
 use borrow.Author.Rules.{rules}
-use native.Mathlib.Omega.{arith}
 use Rattle.cell_insertion.proofs.worker.divide_pixels.Goals as goal
 
 pub loop-i-init : goal.loop-i-init
 loop-i-init c = search (dividing_begin, rules)
-
-pub loop-i-smaller : goal.loop-i-smaller
-loop-i-smaller c = simp length-set (omega arith)
 
 pub loop-i-preserved : goal.loop-i-preserved
 loop-i-preserved c = search (dividing_on, rules)

@@ -1,11 +1,6 @@
 -- `worker::divide_pixels`: a turn divides the next pixel, and makes at most one draw. Assumes nothing.
 use Rattle.cell_insertion.proofs.DividingLaws.{Dividing}
-use lib.ListN.{length}
-use Prim.Native.Nat.{◌-◌}
 use Rattle.cell_insertion.proofs.worker.divide_pixels.Given as goal
 
 abbrev pub invariant-loop-i : goal.invariant-loop-i
 invariant-loop-i l = Dividing l.c l.slot l.initial.pixels l.state l.pixels l.after l.draws l.i
-
-abbrev pub decreases-loop-i : goal.decreases-loop-i
-decreases-loop-i l = length l.pixels - l.i
