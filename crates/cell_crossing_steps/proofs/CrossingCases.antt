@@ -108,16 +108,9 @@ module _ (v u σ t k : ℕ) (d : Divided) (e : d ≡ rounded_div v u σ) (h : k 
   pub credited_fits : t ≤ 4096 → d.draws + k < 2 ^ 32
   credited_fits r = omega (arith, credited_few)
 
--- the pixel of the sub-window that ends
-module _ (t n crossed slot : ℕ) where
-  pub ended_found : (crossed < pixels_of t → crossed ≤ n) → (crossed ≤ n → slot ≡ slot_of t (n - crossed)) → crossed < pixels_of t → slot ≡ slot_of t (n - crossed)
-  ended_found begins is h = is (begins h)
-
+-- the sub-window that ends
 pub near_begun : (t n crossed p : ℕ) → p ≡ pixels_of t → crossed < p → (crossed < pixels_of t → crossed ≤ n) → crossed ≤ n
 near_begun t n crossed p ep h begins = begins (omega arith)
-
-pub near_slot : (t n crossed slot p : ℕ) → p ≡ pixels_of t → crossed < p → (crossed < pixels_of t → slot ≡ slot_of t (n - crossed)) → slot ≡ slot_of t (n - crossed)
-near_slot t n crossed slot p ep h is = is (omega arith)
 
 -- UP TO THE ZOOMING IN
 module _ (t c n crossed p : ℕ) (b : List ℕ) (σ : ℕ) (ep : p ≡ pixels_of t) where
@@ -127,12 +120,12 @@ module _ (t c n crossed p : ℕ) (b : List ℕ) (σ : ℕ) (ep : p ≡ pixels_of
       let q : pixels_of t ≤ crossed = omega arith in
       e ∙ sym (simp (le-leb _ _ q))
 
-  pub inside_near : crossed < p → (slot : ℕ) (l l' : List ℕ) (r : Drawn) → (crossed < pixels_of t → slot ≡ slot_of t (n - crossed))
+  pub inside_near : crossed < p → (slot : ℕ) (l l' : List ℕ) (r : Drawn) → slot ≡ slot_of t (n - crossed)
       → step_of l r ≡ close_of t c slot b σ → l' ≡ clear_of t crossed (n - crossed + 1) l → step_of l' r ≡ inside_of t c n crossed b σ
   unfolding inside_of
   inside_near h slot l l' r known e el =
       let q : crossed < pixels_of t = omega arith in
-      simp (lt-leb _ _ q) (rw (el, ← known q) (ap (λ (s : Step). leaving s (clear_of t crossed (n - crossed + 1) s.bytes)) e))
+      simp (lt-leb _ _ q) (rw (el, ← known) (ap (λ (s : Step). leaving s (clear_of t crossed (n - crossed + 1) s.bytes)) e))
 
 -- THE CROSSING
 module _ (t c n crossed : ℕ) (b : List ℕ) (σ : ℕ) where

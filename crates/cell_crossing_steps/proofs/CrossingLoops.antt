@@ -1,12 +1,14 @@
 -- The loops of a crossing: each says that the definition of all at entry is that of the rest from here, so that a turn
 -- is one clause of it. Assumes nothing.
-use Prim.Native.Nat.{ℕ, suc, ◌+◌, ◌-◌, ◌*◌, ◌%◌, ◌^◌, ◌≤◌, ◌<◌}
+use Prim.Native.Nat.{ℕ, zero, suc, ◌+◌, ◌-◌, ◌*◌, ◌%◌, ◌^◌, ◌≤◌, ◌<◌}
 use mathlib.Core.Path.{◌≡◌, refl, sym, ap, ◌∙◌}
-use mathlib.Core.Bool.{true}
-use mathlib.Core.List.{List, ◌++◌, append_assoc, append-nil}
+use mathlib.Core.Bool.{Bool, true, false, true≢false}
+use mathlib.Core.List.{List, [], ◌∷◌, ◌++◌, append_assoc, append-nil}
+use borrow.Author.Tests.{le-leb}
+use Rattle.std.specs.Prelude.{◌↔◌, IsTrue, EachIndex, slice_index}
 use lib.ListN.{length, take, drop, get_or, set, length-set, drop_of_length-le}
 use lib.Seq.{drop-cons, take-suc-set, drop-set-lt, take_all}
-use native.Mathlib.Nat.{mod-lt, mod_self, mod-eq_of_lt, mod-add-mod}
+use native.Mathlib.Nat.{add-zero, sub-zero, mod-add-mod}
 use native.Mathlib.Numerals.{add-one}
 use native.Mathlib.Omega.{arith}
 use Rattle.cell.specs.Cell.{pixels_of, slot_of}
@@ -23,9 +25,11 @@ module _ (c : ℕ) (l₀ : List ℕ) where
   pub timing_begin : all_at_most (ceiling_of c) l₀ ≡ true → Timing c l₀ l₀ 0
   timing_begin s = record { done = refl; low = s; same = refl }
 
-  pub timing_end : (l : List ℕ) (i : ℕ) → length l ≤ i → Timing c l₀ l i → l ≡ times_each c l₀
+  pub timing_end : (l : List ℕ) (i : ℕ) → length l₀ ≤ i → Timing c l₀ l i → l ≡ times_each c l₀
   unfolding times_each
-  timing_end l i h w = sym (w.done ∙ rw (drop_of_length-le l h, take_all i l h) (append-nil l))
+  timing_end l i h w =
+      let all : length l ≤ i = rw w.same h in
+      sym (w.done ∙ rw (drop_of_length-le l all, take_all i l all) (append-nil l))
 
   module _ (l : List ℕ) (i x : ℕ) (h : i < length l) (e : x ≡ get_or l i 0) (w : Timing c l₀ l i) where
     low_here : (x ≤ ceiling_of c) × (all_at_most (ceiling_of c) (drop (suc i) l) ≡ true)
@@ -51,24 +55,14 @@ module _ (c : ℕ) (l₀ : List ℕ) where
         }
 
 -- THE RING: the pixel behind another is that of the next sub-window
-module _ (t slot p : ℕ) (ep : p ≡ pixels_of t) where
-  pub next_on : slot + 1 < p → slot + 1 ≡ (slot + 1) % pixels_of t
-  next_on h = sym (mod-eq_of_lt (rw ep at h))
-
-  pub next_round : slot < pixels_of t → p ≤ slot + 1 → 0 ≡ (slot + 1) % pixels_of t
-  next_round h l =
-      let e : slot + 1 ≡ pixels_of t = omega arith in
-      rw e (sym (mod_self (pixels_of t)))
-
 next_slot_is : (t x slot next : ℕ) → slot ≡ slot_of t x → next ≡ (slot + 1) % pixels_of t → next ≡ slot_of t (x + 1)
 next_slot_is t x slot next e en = en ∙ rw e (mod-add-mod x (pixels_of t) 1)
 
--- CLEAR: `left` sub-windows are to be cleared yet, and the pixel of the last one that was is known
-pub record Clearing (t : ℕ) (b₀ : List ℕ) (ended count : ℕ) (b : List ℕ) (slot left : ℕ) : Type 0 where
-  pub done : clear_of t count (ended + 1) b₀ ≡ clear_of t left (ended + (count - left) + 1) b
+-- CLEAR: so many sub-windows are cleared, and the pixel of the last one that was is known
+pub record Clearing (t : ℕ) (b₀ : List ℕ) (ended count : ℕ) (b : List ℕ) (slot cleared : ℕ) : Type 0 where
+  pub done : clear_of t count (ended + 1) b₀ ≡ clear_of t (count - cleared) (ended + cleared + 1) b
   pub same : length b ≡ length b₀
-  pub most : left ≤ count
-  pub place : slot ≡ slot_of t (ended + (count - left))
+  pub place : slot ≡ slot_of t (ended + cleared)
 
 clear_more : (t k first : ℕ) (b : List ℕ) → clear_of t (suc k) first b ≡ clear_of t k (first + 1) (set b (slot_of t first) 0)
 unfolding clear_of
@@ -76,49 +70,44 @@ clear_more t k first b = refl
 
 -- a crossing by one clears the pixel behind that of the sub-window that ends
 module _ (t ended slot : ℕ) (e : slot ≡ slot_of t ended) where
-  pub slot_low : slot < pixels_of t
-  slot_low =
-      let positive : 0 < pixels_of t = omega arith in
-      rw e (mod-lt ended positive)
-
   pub clear_one : (b : List ℕ) (count begun : ℕ) → begun ≡ (slot + 1) % pixels_of t → count ≡ 1 → set b begun 0 ≡ clear_of t count (ended + 1) b
   unfolding clear_of
   clear_one b count begun en one = rw (one, next_slot_is t ended slot begun e en) refl
 
-pub slot_in : (t slot : ℕ) (b : List ℕ) → slot < pixels_of t → pixels_of t ≤ length b → slot < length b
-slot_in t slot b low room = omega arith
-
 module _ (t : ℕ) (b₀ : List ℕ) (ended count : ℕ) where
-  pub clearing_begin : (slot : ℕ) → slot ≡ slot_of t ended → Clearing t b₀ ended count b₀ slot count
-  clearing_begin slot e =
-      let q : ended + (count - count) ≡ ended = omega arith in
-      record { done = rw q refl; same = refl; most = omega arith; place = rw q e }
+  pub clearing_begin : (slot : ℕ) → slot ≡ slot_of t ended → Clearing t b₀ ended count b₀ slot 0
+  clearing_begin slot e = record { done = rw (sub-zero count, add-zero ended) refl; same = refl; place = rw (add-zero ended) e }
 
-  module _ (b : List ℕ) (slot left : ℕ) (w : Clearing t b₀ ended count b slot left) where
-    pub clearing_end : left ≤ 0 → b ≡ clear_of t count (ended + 1) b₀
+  module _ (b : List ℕ) (slot cleared : ℕ) (w : Clearing t b₀ ended count b slot cleared) where
+    pub clearing_end : count ≤ cleared → b ≡ clear_of t count (ended + 1) b₀
     unfolding clear_of
     clearing_end h =
-        let e : left ≡ 0 = omega arith in
+        let e : count - cleared ≡ 0 = omega arith in
         sym (w.done ∙ rw e refl)
 
-    pub clearing_low : slot < pixels_of t
-    clearing_low =
-        let positive : 0 < pixels_of t = omega arith in
-        rw w.place (mod-lt (ended + (count - left)) positive)
+    pub clearing_on : (next : ℕ) → next ≡ (slot + 1) % pixels_of t → cleared < count → Clearing t b₀ ended count (set b next 0) next (cleared + 1)
+    clearing_on next en h =
+        let s : count - cleared ≡ suc (count - (cleared + 1)) = omega arith in
+        let x : ended + (cleared + 1) ≡ ended + cleared + 1 = omega arith in
+        let q : next ≡ slot_of t (ended + cleared + 1) = next_slot_is t (ended + cleared) slot next w.place en in
+        let more = ap (λ (m : ℕ). clear_of t m (ended + cleared + 1) b) s ∙ clear_more t (count - (cleared + 1)) (ended + cleared + 1) b in
+        record { done = w.done ∙ more ∙ rw (x, q) refl; same = length-set b next 0 ∙ w.same; place = rw x q }
 
-    module _ (next : ℕ) (en : next ≡ (slot + 1) % pixels_of t) where
-      pub clearing_in : pixels_of t ≤ length b₀ → next < pixels_of t → next < length b
-      clearing_in room h = omega (arith, w.same)
+-- ALL AT MOST m, as a chain over the numbers finds it: each by itself
+each_low : (m : ℕ) (l : List ℕ) → EachIndex l (λ k. slice_index l k ≤ m) → all_at_most m l ≡ true
+unfolding all_at_most
+each_low m [] h = refl
+each_low m (x ∷ xs) h = simp (le-leb x m (h 0 (omega arith)), each_low m xs (λ k q. h (suc k) (omega arith)))
 
-      pub clearing_on : (k : ℕ) → k < left → Clearing t b₀ ended count (set b next 0) next (left - 1)
-      clearing_on k h =
-          let s : left ≡ suc (left - 1) = omega arith in
-          let x : ended + (count - (left - 1)) ≡ ended + (count - left) + 1 = omega (arith, w.most) in
-          let q : next ≡ slot_of t (ended + (count - left) + 1) = next_slot_is t (ended + (count - left)) slot next w.place en in
-          let more = ap (λ (m : ℕ). clear_of t m (ended + (count - left) + 1) b) s ∙ clear_more t (left - 1) (ended + (count - left) + 1) b in
-          record {
-            done = w.done ∙ more ∙ rw (x, q) refl;
-            same = length-set b next 0 ∙ w.same;
-            most = omega (arith, w.most);
-            place = rw x q;
-          }
+low_each : (m : ℕ) (l : List ℕ) → all_at_most m l ≡ true → EachIndex l (λ k. slice_index l k ≤ m)
+low_each m [] e k h = absurd (omega arith)
+low_each m (x ∷ xs) e zero h = (most_cons m x xs e).0
+low_each m (x ∷ xs) e (suc k) h = low_each m xs (most_cons m x xs e).1 k (omega arith)
+
+pub all_is : (m : ℕ) (l : List ℕ) (r : Bool) → IsTrue r ↔ EachIndex l (λ k. slice_index l k ≤ m) → r ≡ all_at_most m l
+all_is m l true h = sym (each_low m l (h.0 refl))
+all_is m l false h = by (all_at_most m l) refl
+  where
+    by : (a : Bool) → all_at_most m l ≡ a → false ≡ all_at_most m l
+    by false e = sym e
+    by true e = absurd (true≢false (sym (h.1 (low_each m l e))))

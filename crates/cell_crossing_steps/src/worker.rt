@@ -7,7 +7,7 @@ ghost use Rattle.cell.specs.Crossing.{close_of, clear_of, emptied, inside_of, ce
 ghost use Rattle.cell.specs.Workers.{Fit, Judged, step_of};
 
 use cell::Drawn;
-use cell_judging::power;
+use cell_judging::{answer, power};
 use cell_layout::fields;
 
 // Moves a cell into sub-window n, `crossed` sub-windows on. The caller knows the pixel of the sub-window that ends, so
@@ -26,12 +26,8 @@ pub fn enter_sub_window(
     ensures draws_bound { result.draws ≤ t + 3 }
 {
     let zoom = fields::zoom(&cell[..], t);
-    if zoom == 0 {
-        if 0 < crossed {
-            if crossed < (fields::pixels(t) as u64) {
-                return enter_flat(cell, t, c, n, crossed, slot, state);
-            }
-        }
+    if zoom == 0 && 0 < crossed && crossed < (fields::pixels(t) as u64) {
+        return enter_flat(cell, t, c, n, crossed, slot, state);
     }
     let shutter = fields::shutter(&cell[..], t);
     let unit = power::unit(c, zoom);
@@ -54,22 +50,7 @@ fn enter_flat(
     ensures draws_bound { result.draws ≤ t + 3 }
 {
     clear(cell, t, slot, n - crossed, crossed);
-    Drawn {
-        state,
-        draws: 0,
-        lost: 0,
-    }
-}
-
-// The pixel of the sub-window that ends. A far jump, which may lead from before sub-window 0, has none and asks for none.
-fn ended_slot(t: usize, n: u64, crossed: u64) -> usize
-    requires { t ≤ 4096 }
-    ensures { (crossed ≤ n → result ≡ slot_of t (n - crossed)) × (result < pixels_of t) }
-{
-    if n < crossed {
-        return 0;
-    }
-    fields::slot(t, n - crossed)
+    answer::still(state)
 }
 
 // The same where the caller has read the shutter and the unit already.
@@ -87,7 +68,8 @@ pub fn enter_judged(
     ensures result_after { step_of cell.new result ≡ cross_of t c n crossed cell.old state }
     ensures draws_bound { result.draws ≤ t + 3 }
 {
-    let slot = ended_slot(t, n, crossed);
+    // A far jump may lead from before sub-window 0: it asks for no pixel, and is told that of 0.
+    let slot = fields::slot(t, n.saturating_sub(crossed));
     enter_from(cell, t, c, n, crossed, slot, shutter, unit, state)
 }
 
@@ -103,17 +85,13 @@ fn enter_from(
     unit: u64,
     state: u64,
 ) -> Drawn
-    requires judged { Judged t c cell.old shutter unit × (slot < pixels_of t) }
-    requires crossed_le_n { (crossed < pixels_of t → crossed ≤ n) × (crossed < pixels_of t → slot ≡ slot_of t (n - crossed)) }
+    requires judged { Judged t c cell.old shutter unit × (slot ≡ slot_of t (n - crossed)) }
+    requires crossed_le_n { crossed < pixels_of t → crossed ≤ n }
     ensures result_after { step_of cell.new result ≡ cross_of t c n crossed cell.old state }
     ensures draws_bound { result.draws ≤ t + 3 }
 {
     if crossed == 0 {
-        return Drawn {
-            state,
-            draws: 0,
-            lost: 0,
-        };
+        return answer::still(state);
     }
     let drawn = enter_unzoomed(cell, t, c, n, crossed, slot, shutter, unit, state);
     zoom_in(cell, t, c);
@@ -132,8 +110,8 @@ fn enter_unzoomed(
     unit: u64,
     state: u64,
 ) -> Drawn
-    requires judged { Judged t c cell.old shutter unit × (slot < pixels_of t) }
-    requires crossed_le_n { (crossed < pixels_of t → crossed ≤ n) × (crossed < pixels_of t → slot ≡ slot_of t (n - crossed)) }
+    requires judged { Judged t c cell.old shutter unit × (slot ≡ slot_of t (n - crossed)) }
+    requires crossed_le_n { crossed < pixels_of t → crossed ≤ n }
     ensures result_after { step_of cell.new result ≡ inside_of t c n crossed cell.old state }
     ensures draws_bound { result.draws ≤ t + 3 }
 {
@@ -165,13 +143,9 @@ fn close(
     fields::set_shutter(cell, t, 0);
     // Most cells have nothing to round: they are spared the division.
     if shutter == 0 {
-        return Drawn {
-            state,
-            draws: 0,
-            lost: 0,
-        };
+        return answer::still(state);
     }
-    let rounded = rounding::worker::divide(shutter as u64, unit, state);
+    let rounded = rounding::worker::divide(u64::from(shutter), unit, state);
     if rounded.value == 0 {
         return Drawn {
             state: rounded.state,
@@ -187,16 +161,13 @@ fn close(
     }
 }
 
-// The pixel behind this one: they stand in a ring.
+// The pixel behind this one: they stand in a ring. A remainder would be a division for each pixel that is cleared.
 fn next_slot(t: usize, slot: usize) -> usize
     requires { (t ≤ 4096) × (slot < pixels_of t) }
     ensures { (result ≡ (slot + 1) % pixels_of t) × (result < pixels_of t) }
 {
     let next = slot + 1;
-    if next < fields::pixels(t) {
-        return next;
-    }
-    0
+    if next < fields::pixels(t) { next } else { 0 }
 }
 
 // Clears the pixels of the `count` sub-windows after `ended`, whose pixel is known: the ring is walked without a division.
@@ -211,11 +182,9 @@ fn clear(cell: &mut [u8], t: usize, slot: usize, ended: u64, count: u64)
         return;
     }
     let mut at = slot;
-    let mut left = count;
-    while left > 0 {
+    for _ in 0..count {
         at = next_slot(t, at);
         cell[at] = 0;
-        left -= 1;
     }
 }
 
@@ -227,11 +196,7 @@ fn empty(cell: &mut [u8], t: usize, state: u64) -> Drawn
     let pixels = fields::pixels(t);
     fields::zero_all(&mut cell[..pixels]);
     fields::set_shutter(cell, t, 0);
-    Drawn {
-        state,
-        draws: 0,
-        lost: 0,
-    }
+    answer::still(state)
 }
 
 // Zooms in as far as the pixels allow.
@@ -239,12 +204,10 @@ fn zoom_in(cell: &mut [u8], t: usize, c: u32)
     requires { Fit t c (length cell.old) }
     ensures { cell.new ≡ zoom_in_of t c cell.old }
 {
-    let mut zoom = fields::zoom(&cell[..], t);
-    while zoom > 0 {
+    for zoom in (0..fields::zoom(&cell[..], t)).rev() {
         if !has_room(&cell[..], t, c) {
             return;
         }
-        zoom -= 1;
         zoom_in_to(cell, t, c, zoom);
     }
 }
@@ -271,23 +234,14 @@ fn zoom_in_to(cell: &mut [u8], t: usize, c: u32, zoom: u8)
 fn all_at_most(pixels: &[u8], most: u32) -> bool
     ensures { result ≡ all_at_most most pixels.now }
 {
-    let mut i: usize = 0;
-    while i < pixels.len() {
-        if most < fields::wide(pixels[i]) {
-            return false;
-        }
-        i += 1;
-    }
-    true
+    pixels.iter().all(|pixel| u32::from(*pixel) <= most)
 }
 
 fn times_each(pixels: &mut [u8], c: u32)
     requires { (2 ≤ c) × (all_at_most (ceiling_of c) pixels.old ≡ true) }
     ensures { pixels.new ≡ times_each c pixels.old }
 {
-    let mut i: usize = 0;
-    while i < pixels.len() {
-        pixels[i] = (fields::wide(pixels[i]) * c) as u8;
-        i += 1;
+    for pixel in pixels.iter_mut() {
+        *pixel = (u32::from(*pixel) * c) as u8;
     }
 }

@@ -1,16 +1,7 @@
-use Rattle.cell.proofs.AtMostLaws.{most_on, most_stop, most_end}
-use mathlib.Core.Path.{refl}
+-- `all_at_most`: the chain asks for each pixel by itself. Assumes nothing.
+use Rattle.cell_crossing_steps.proofs.CrossingLoops.{all_is}
 use borrow.Author.Rules.{rules}
 use Rattle.cell_crossing_steps.proofs.worker.all_at_most.Goals as goal
 
-pub loop-i-init : goal.loop-i-init
-loop-i-init c = (refl, search rules)
-
-pub returns-then-most-wide : goal.returns-then-most-wide
-returns-then-most-wide c = search (most_stop, rules)
-
-pub loop-i-preserved : goal.loop-i-preserved
-loop-i-preserved c = (search (most_on, rules), search rules)
-
 pub returns : goal.returns
-returns c = search (most_end, rules)
+returns c = all_is c.args.most c.args.pixels.now c.all.result (search rules)

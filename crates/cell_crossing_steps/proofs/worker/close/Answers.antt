@@ -19,7 +19,9 @@ pub overflow_add-result : goal.overflow_add-result
 overflow_add-result c = record { fits = search (credited_fits, rules) }
 
 pub returns-clause-result_after : goal.returns-clause-result_after
-returns-clause-result_after c = search (close_credit, rules)
+returns-clause-result_after c =
+    let rounded = rw c.from.ensures at c.divide-rounded.ensures in
+    search (close_credit, rules)
 
 pub returns-clause-draws_bound : goal.returns-clause-draws_bound
 returns-clause-draws_bound c = search (credited_few, rules)

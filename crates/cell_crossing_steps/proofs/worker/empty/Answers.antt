@@ -8,4 +8,4 @@ pub slice_bounds-zero_all-end-2 : goal.slice_bounds-zero_all-end-2
 slice_bounds-zero_all-end-2 c = search (front_count, rules)
 
 pub returns : goal.returns
-returns c = search (emptied_is, rules)
+returns c = rw c.still.ensures (search (emptied_is, rules))

@@ -4,4 +4,4 @@ use borrow.Author.Rules.{rules}
 use Rattle.cell_crossing_steps.proofs.worker.enter_flat.Goals as goal
 
 pub returns-clause-result_after : goal.returns-clause-result_after
-returns-clause-result_after c = search (flat_crossed, rules)
+returns-clause-result_after c = rw c.still.ensures (search (flat_crossed, rules))

@@ -1,8 +1,5 @@
-use Rattle.cell.proofs.AtMostLaws.{room_known}
 use Rattle.cell_crossing_steps.proofs.CrossingCases.{zooming_begin, zooming_stop, zooming_on, zooming_end}
 use borrow.Author.Rules.{rules}
-use mathlib.Core.Path.{ap}
-use mathlib.Core.Bool.{not}
 use Rattle.cell_crossing_steps.proofs.worker.zoom_in.Goals as goal
 
 pub loop-zoom-init : goal.loop-zoom-init
@@ -10,9 +7,6 @@ loop-zoom-init c = search (zooming_begin, rules)
 
 pub returns-then-not-has_room : goal.returns-then-not-has_room
 returns-then-not-has_room c = search (zooming_stop, rules)
-
-pub zoom_in_to-requires : goal.zoom_in_to-requires
-zoom_in_to-requires c = (search rules, room_known _ _ _ c.has_room.ensures (ap not c.if-not-has_room.false))
 
 pub loop-zoom-preserved : goal.loop-zoom-preserved
 loop-zoom-preserved c = search (zooming_on, rules)

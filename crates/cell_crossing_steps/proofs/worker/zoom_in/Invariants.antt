@@ -4,6 +4,3 @@ use Rattle.cell_crossing_steps.proofs.worker.zoom_in.Given as goal
 
 abbrev pub invariant-loop-zoom : goal.invariant-loop-zoom
 invariant-loop-zoom l = Zooming l.t l.c l.initial.cell l.cell l.zoom
-
-abbrev pub decreases-loop-zoom : goal.decreases-loop-zoom
-decreases-loop-zoom l = l.zoom
