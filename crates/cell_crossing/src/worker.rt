@@ -48,13 +48,7 @@ fn starts_before_first(t: usize, n: u64, crossed: u64) -> bool
     requires { t ≤ 4096 }
     ensures { result ≡ (ltb 0 crossed && ltb crossed (pixels_of t) && ltb n crossed) }
 {
-    if crossed == 0 {
-        return false;
-    }
-    if (fields::pixels(t) as u64) <= crossed {
-        return false;
-    }
-    n < crossed
+    0 < crossed && crossed < (fields::pixels(t) as u64) && n < crossed
 }
 
 // Moves a cell that was judged, and may have been turned back, into sub-window n, `crossed` sub-windows on.
