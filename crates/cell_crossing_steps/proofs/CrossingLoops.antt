@@ -1,11 +1,9 @@
 -- The loops of a crossing: each says that the definition of all at entry is that of the rest from here, so that a turn
 -- is one clause of it. Assumes nothing.
-use Prim.Native.Nat.{ℕ, zero, suc, ◌+◌, ◌-◌, ◌*◌, ◌%◌, ◌^◌, ◌≤◌, ◌<◌}
+use Prim.Native.Nat.{ℕ, suc, ◌+◌, ◌-◌, ◌*◌, ◌%◌, ◌^◌, ◌≤◌, ◌<◌}
 use mathlib.Core.Path.{◌≡◌, refl, sym, ap, ◌∙◌}
-use mathlib.Core.Bool.{Bool, true, false, true≢false}
-use mathlib.Core.List.{List, [], ◌∷◌, ◌++◌, append_assoc, append-nil}
-use borrow.Author.Tests.{le-leb}
-use Rattle.std.specs.Prelude.{◌↔◌, IsTrue, EachIndex, slice_index}
+use mathlib.Core.Bool.{true}
+use mathlib.Core.List.{List, ◌++◌, append_assoc, append-nil}
 use lib.ListN.{length, take, drop, get_or, set, length-set, drop_of_length-le}
 use lib.Seq.{drop-cons, take-suc-set, drop-set-lt, take_all}
 use native.Mathlib.Nat.{add-zero, sub-zero, mod-add-mod}
@@ -92,22 +90,3 @@ module _ (t : ℕ) (b₀ : List ℕ) (ended count : ℕ) where
         let q : next ≡ slot_of t (ended + cleared + 1) = next_slot_is t (ended + cleared) slot next w.place en in
         let more = ap (λ (m : ℕ). clear_of t m (ended + cleared + 1) b) s ∙ clear_more t (count - (cleared + 1)) (ended + cleared + 1) b in
         record { done = w.done ∙ more ∙ rw (x, q) refl; same = length-set b next 0 ∙ w.same; place = rw x q }
-
--- ALL AT MOST m, as a chain over the numbers finds it: each by itself
-each_low : (m : ℕ) (l : List ℕ) → EachIndex l (λ k. slice_index l k ≤ m) → all_at_most m l ≡ true
-unfolding all_at_most
-each_low m [] h = refl
-each_low m (x ∷ xs) h = simp (le-leb x m (h 0 (omega arith)), each_low m xs (λ k q. h (suc k) (omega arith)))
-
-low_each : (m : ℕ) (l : List ℕ) → all_at_most m l ≡ true → EachIndex l (λ k. slice_index l k ≤ m)
-low_each m [] e k h = absurd (omega arith)
-low_each m (x ∷ xs) e zero h = (most_cons m x xs e).0
-low_each m (x ∷ xs) e (suc k) h = low_each m xs (most_cons m x xs e).1 k (omega arith)
-
-pub all_is : (m : ℕ) (l : List ℕ) (r : Bool) → IsTrue r ↔ EachIndex l (λ k. slice_index l k ≤ m) → r ≡ all_at_most m l
-all_is m l true h = sym (each_low m l (h.0 refl))
-all_is m l false h = by (all_at_most m l) refl
-  where
-    by : (a : Bool) → all_at_most m l ≡ a → false ≡ all_at_most m l
-    by false e = sym e
-    by true e = absurd (true≢false (sym (h.1 (low_each m l e))))

@@ -1,7 +1,12 @@
--- `all_at_most`: the chain asks for each pixel by itself. Assumes nothing.
-use Rattle.cell_crossing_steps.proofs.CrossingLoops.{all_is}
+use Rattle.cell.proofs.AtMostLaws.{most_on, most_stop, most_end}
 use borrow.Author.Rules.{rules}
 use Rattle.cell_crossing_steps.proofs.worker.all_at_most.Goals as goal
 
+pub returns-then-from-most : goal.returns-then-from-most
+returns-then-from-most c = search (most_stop, rules)
+
+pub loop-pixel-preserved : goal.loop-pixel-preserved
+loop-pixel-preserved c = search (most_on, rules)
+
 pub returns : goal.returns
-returns c = all_is c.args.most c.args.pixels.now c.all.result (search rules)
+returns c = search (most_end, rules)
