@@ -22,9 +22,6 @@ Crossing t c count n crossed g₀ σ₀ g σ drawn lost start index =
     Going (cross_piece t c n crossed) (depth_of t) 4099 1 count g₀ σ₀ g σ drawn lost start index
 
 module _ (t c count n crossed : ℕ) (g₀ : List ℕ) (σ₀ d : ℕ) where
-  pub crossing_begin : count * depth_of t ≤ length g₀ → Crossing t c count n crossed g₀ σ₀ g₀ σ₀ 0 0 (0 * d) 0
-  crossing_begin h = rw zero-mul (going_begin (cross_piece t c n crossed) (depth_of t) 4099 1 count g₀ σ₀ h)
-
   -- the piece of the next index begins where this one ends
   pub crossing_on : (g : List ℕ) (σ drawn lost i : ℕ) → Crossing t c count n crossed g₀ σ₀ g σ drawn lost (i * d) i → i < count → d ≡ depth_of t
       → (ys : List ℕ) (r : cell.Drawn) (x : ℕ) → x ≡ r.draws → length ys ≡ length (take (i * d + d - i * d) (drop (i * d) g))

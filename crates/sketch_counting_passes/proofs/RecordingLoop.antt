@@ -60,10 +60,6 @@ module _ (k : MicroCm) (n : ℕ) (key g₀ : List ℕ) (σ₀ : ℕ) where
     pub light : lost ≤ row
     pub most : row ≤ length key
 
-  pub recording_begin : Readable k key g₀ → Recording g₀ σ₀ 0 0 0
-  recording_begin w =
-      record { done = simp zero-add; judged = w.judged; ready = w.ready; few = omega arith; light = omega arith; most = omega arith }
-
   module _ (g : List ℕ) (σ drawn lost row : ℕ) (w : Recording g σ drawn lost row) where
     pub row_sound : (index : ℕ) → index ≡ key_cell k key row → row < length key → sound_of k.params.t k.params.c (cell_of k g index) ≡ true
     row_sound index e h = rw e (judged_cons k g (key_cell k key row) _ (rw (row_cons k key row h) at w.judged)).0
