@@ -24,14 +24,6 @@ use Rattle.sketch.proofs.ReadingLaws.{keyed, keyed_gate, cells, fraction_then}
 use Rattle.sketch_reading_figures.specs.declared.worker.Estimated.{Estimated}
 use Rattle.sketch_reading_figures.specs.Workers.{estimate_of}
 
--- THE FRACTION
-module _ (k : MicroCm) (fraction : Float) (n : ℕ) (en : n ≡ n_of k.clock) where
-  pub young_unused : n < k.params.t → false ≡ (has_oldest k && not (in_unit fraction))
-  young_unused h = rw (← en, lt-leb _ _ h) refl
-
-  pub oldest_used : (x : Bool) → x ≡ in_unit fraction → k.params.t ≤ n → not x ≡ (has_oldest k && not (in_unit fraction))
-  oldest_used x e h = rw (← en, le-leb _ _ h, e) refl
-
 -- THE VERDICTS
 module _ (k : MicroCm) (key g : List ℕ) where
   module _ (v : Verdict) (ev : v ≡ refuse_sketch k g (refuse_key k key Accepted)) (ok : Bool) (asked : ok ≡ is_accepted v) where

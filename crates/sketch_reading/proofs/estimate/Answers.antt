@@ -6,9 +6,6 @@ use Rattle.sketch_reading.proofs.estimate.Goals as goal
 pub returns-then-not-accepted : goal.returns-then-not-accepted
 returns-then-not-accepted c = search (read_refused, rules)
 
-pub fraction-fraction-requires : goal.fraction-fraction-requires
-fraction-fraction-requires c = search (read_length, rules)
-
 pub estimate-requires : goal.estimate-requires
 estimate-requires c = search (read_readable, rules)
 
