@@ -20,7 +20,7 @@ use Rattle.sketch.specs.declared.Passed.{Passed}
 use Rattle.sketch.specs.Sketch.{cells_of, key_cells, all_cells, insert_each, cross_each}
 use Rattle.sketch.specs.Refusals.{all_below, refuse_sketch, refuse_unsound, judged_cells, sketch_verdict, move_verdict}
 use Rattle.sketch.specs.Workers.{Ready, Judged, Readable, SoundCells, pass_of}
-use Rattle.sketch.proofs.AddressLaws.{cells_few, cells_fit}
+use Rattle.sketch.proofs.AddressLaws.{cells_few}
 use Rattle.sketch.proofs.JudgedLaws.{judged_all, sound_cells}
 use Rattle.sketch.proofs.GridLaws.{Fits, cross_each_length}
 use Rattle.sketch.proofs.KeyLaws.{key_cells_below}
@@ -133,9 +133,6 @@ module _ (k : MicroCm) (g : List ℕ) (clock : SubWindowClock) (number : ℕ) (h
 
   move_ready : Ready k (length g)
   move_ready = ready_of k g let_through.0
-
-  pub move_fit : k.rows * k.cols < 2 ^ 64
-  move_fit = cells_fit k (length g) move_ready
 
   -- where n rises every cell was judged
   pub move_sound : (old new : ℕ) → new ≡ n_of clock → old ≡ n_of k.clock → (new ≡ old → ⊥)

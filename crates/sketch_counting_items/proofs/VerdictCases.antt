@@ -28,10 +28,6 @@ keyed k key g rest = refuse_sketch k g (refuse_key k key rest)
 pub keyed_gate : (k : MicroCm) (key g : List ℕ) → Gate (keyed k key g)
 keyed_gate k key g = gate_chain (refuse_sketch k g) (refuse_key k key) (sketch_gate k g) (refuse_then 7 (not (key_fits k key)))
 
--- n rises where the two sub-windows differ
-pub crosses_told : (k : MicroCm) (after : SubWindowClock) (old new : ℕ) → old ≡ n_of k.clock → new ≡ n_of after → not (eqb new old) ≡ crosses_to k after
-crosses_told k after old new eo en = rw (eo, en) refl
-
 -- CELLS: these where n stays
 module _ (k : MicroCm) (g : List ℕ) (after : SubWindowClock) (rises : Bool) (er : rises ≡ crosses_to k after) (cells : List ℕ) where
   cells_stay : rises ≡ false → refuse_unsound k g (judged_cells k after cells) Accepted ≡ refuse_unsound k g cells Accepted

@@ -1,5 +1,5 @@
 -- `estimate`: a key that was let pass can be read, with the clock's fraction. Assumes nothing.
-use Rattle.sketch_reading.proofs.ReadLaws.{read_refused, read_length, read_readable, read_told}
+use Rattle.sketch_reading.proofs.ReadLaws.{read_refused, read_readable, read_told}
 use borrow.Author.Rules.{rules}
 use Rattle.sketch_reading.proofs.estimate.Goals as goal
 

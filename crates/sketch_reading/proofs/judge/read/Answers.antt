@@ -1,5 +1,5 @@
 -- `read`: 1 to 7, and then what the key's cells say. Assumes nothing.
-use Rattle.sketch_reading.proofs.ReadLaws.{read_keyed, keyed_grid, keyed_fits, read_cells}
+use Rattle.sketch_reading.proofs.ReadLaws.{keyed_grid, keyed_fits}
 use borrow.Author.Rules.{rules}
 use Rattle.sketch_reading.proofs.judge.read.Goals as goal
 

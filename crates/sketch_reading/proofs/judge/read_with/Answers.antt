@@ -1,5 +1,5 @@
 -- `read_with`: 1 to 7, then the fraction, and then what the key's cells say. Assumes nothing.
-use Rattle.sketch_reading.proofs.ReadLaws.{read_with_keyed, keyed_length, fraction_refused, keyed_grid, keyed_fits, read_with_cells}
+use Rattle.sketch_reading.proofs.ReadLaws.{keyed_grid, keyed_fits}
 use borrow.Author.Rules.{rules}
 use Rattle.sketch_reading.proofs.judge.read_with.Goals as goal
 
