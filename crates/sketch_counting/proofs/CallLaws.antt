@@ -23,29 +23,11 @@ use Rattle.sketch.specs.Workers.{pass_of, went_on}
 use Rattle.sketch.proofs.GridLaws.{cross_none}
 use Rattle.sketch_counting_passes.specs.Workers.{cross_cells, passed}
 use Rattle.sketch_counting_items.specs.declared.worker.Counted.{Counted}
-use Rattle.sketch_counting_items.specs.Workers.{SubWindows, windows, Moves, item_of, item_counted}
+use Rattle.sketch_counting_items.specs.Workers.{SubWindows, windows, item_of, item_counted}
 use Rattle.sketch_counting.specs.Workers.{counted_answer}
 use Rattle.sketch_counting_items.proofs.ItemLaws.{left, item_first, item_last}
 
--- THE SUB-WINDOWS of a call
-module _ (k : MicroCm) (clock : SubWindowClock) (old new : ℕ) (eo : old ≡ n_of k.clock) where
-  pub ticked_windows : Onward k.clock (tick_of k.clock) clock → new ≡ n_of (tick_of k.clock) → Moves k clock (windows old new old)
-  ticked_windows on en =
-      let en' : new ≡ n_of clock = en ∙ rw on.is refl in
-      record { before_is = eo; after_is = en'; grows = omega (arith, eo, en', on.grows); own_is = λ e. refl }
-
-  pub advanced_windows : (step : SubWindowClock) → Onward k.clock step clock → new ≡ n_of clock → Moves k clock (windows old new new)
-  advanced_windows step on en = record { before_is = eo; after_is = en; grows = omega (arith, eo, en, on.grows); own_is = λ e. e }
-
 -- THE ANSWERS
--- of an item, by its verdict
-module _ (k : MicroCm) (clock : SubWindowClock) (r : Counted) (ok : Bool) (asked : ok ≡ is_accepted r.verdict) (y : SketchAnswer) where
-  pub answer_refused : not ok ≡ true → y ≡ undrawn r.verdict k → y ≡ counted_answer k clock r
-  answer_refused h ey = ey ∙ sym (refused_leaves r.verdict _ _ (turned_back_lem r.verdict ok asked h))
-
-  pub answer_done : not ok ≡ false → y ≡ went_on k clock r.passed → y ≡ counted_answer k clock r
-  answer_done a ey = ey ∙ rw (let_pass r.verdict ok asked a) refl
-
 module _ (k : MicroCm) (g l : List ℕ) (clock : SubWindowClock) (after : World) where
   went_there : (p : Passed) → left k clock (pass_of l p) ≡ after → sketch_outcome (went_on k clock p) l ≡ sketch_call Accepted after (world k g)
   went_there p e = ap (λ (w : World). sketch_outcome (answered Accepted w) w.grid) e

@@ -9,9 +9,13 @@ mod answer;
 ghost use Rattle.std.specs.Prelude.{◌≡◌};
 ghost use Rattle.sketch.specs.Refusals.{sketch_outcome, update_call, update_at_call, advance_call};
 
-use sketch::{MicroCm, SketchAnswer};
+use cell::MicroParams;
+use sketch::{MicroCm, Passed, SketchAnswer};
 use sketch_counting_items::{judge, worker};
 
+// The two calls with an item stay two, as one of both is no plainer: the count and its answer are shared, and the clock's step,
+// the item's own sub-window and the kind that is wrong differ.
+//
 // One item on a clock of items. It is counted in the sub-window that it finds: the tick comes after it.
 pub fn update(sketch: MicroCm, key: &[u32], grid: &mut [u8]) -> SketchAnswer
     ensures { sketch_outcome result grid.new ≡ update_call sketch key.now grid.old }
@@ -43,7 +47,6 @@ pub fn advance_to(sketch: MicroCm, timestamp: u64, grid: &mut [u8]) -> SketchAns
     ensures { sketch_outcome result grid.new ≡ advance_call sketch timestamp grid.old }
 {
     let clock = sketch.clock;
-    let rounding = sketch.rounding;
     let after = clock_steps::worker::advanced(clock, timestamp);
     let old = clock_steps::worker::sub_window(clock);
     let new = clock_steps::worker::sub_window(after);
@@ -55,20 +58,24 @@ pub fn advance_to(sketch: MicroCm, timestamp: u64, grid: &mut [u8]) -> SketchAns
     // Within its sub-window no cell is looked at. The crossing is called here and not by `worker::moved`: with one caller it
     // would be compiled into that, which every update runs through twice.
     if new == old {
-        let stayed = sketch_counting_passes::worker::passed(rounding.state, 0, 0);
+        let stayed = Passed {
+            state: sketch.rounding.state,
+            draws: 0,
+            lost: 0,
+        };
         return sketch_judging::answer::went_on(sketch, after, stayed);
     }
     let begun = new - old;
-    let params = sketch.params;
+    let MicroParams { t, c } = sketch.params;
     let cells = sketch.rows * sketch.cols;
     let crossed = sketch_counting_passes::worker::cross_cells(
         grid,
-        params.t,
-        params.c,
+        t,
+        c,
         cells,
         new,
         begun,
-        rounding.state,
+        sketch.rounding.state,
     );
     sketch_judging::answer::went_on(sketch, after, crossed)
 }

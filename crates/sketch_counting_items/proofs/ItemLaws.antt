@@ -1,15 +1,12 @@
 -- An item in the order that its sub-window gives: of the old one it is recorded before the cells cross, of the new one after.
 use Prim.Native.Nat.{ℕ, suc, ◌-◌}
 use mathlib.Core.Path.{◌≡◌, refl, sym, ap, ◌∙◌}
-use mathlib.Core.Bool.{Bool, true, false, not}
+use mathlib.Core.Bool.{not}
 use mathlib.Core.List.{List, [], ◌∷◌}
 use lib.Dec.{eqb}
 use native.Mathlib.Nat.{add-zero, zero-add}
 use borrow.Author.Tests.{eq-eqb}
 use Rattle.laws.specs.Steps.{Step, still, followed}
-use Rattle.refusal.specs.declared.Verdict.{Verdict}
-use Rattle.refusal.specs.Refusals.{is_accepted}
-use Rattle.refusal.proofs.VerdictLaws.{refused_leaves, turned_back_lem, let_pass}
 use Rattle.clock.specs.declared.SubWindowClock.{SubWindowClock}
 use Rattle.clock.specs.Clock.{n_of}
 use Rattle.sketch.specs.declared.MicroCm.{MicroCm}
@@ -17,9 +14,7 @@ use Rattle.sketch.specs.declared.Passed.{Passed}
 use Rattle.sketch.specs.Sketch.{cell_index, key_cells, insert_at, insert_each, cross_each, World, recorded, moved, taking}
 use Rattle.sketch.specs.Refusals.{world}
 use Rattle.sketch.specs.Workers.{pass_of}
-use Rattle.sketch_counting_passes.specs.Workers.{passed}
-use Rattle.sketch_counting_items.specs.declared.worker.Counted.{Counted}
-use Rattle.sketch_counting_items.specs.Workers.{SubWindows, windows, cross_if, in_a_row, item_of, item_counted, outcome}
+use Rattle.sketch_counting_items.specs.Workers.{SubWindows, windows, cross_if, in_a_row, item_of}
 use Rattle.sketch_counting_items.proofs.MoveLaws.{cross_rose}
 
 -- THE STEPS of `in_order`, one after another
@@ -48,18 +43,6 @@ module _ (k : MicroCm) (key g : List ℕ) (at : SubWindows) where
         → r ≡ in_a_row before item last
         → pass_of l r ≡ item_of k key at g
     order_done eb ei el er = rw er (in_order (pass_of m before) (pass_of m' item) (pass_of l last) eb ei el)
-
-  -- `count`: judged, and then done
-  module _ (v : Verdict) (r : Counted) (p : Passed) (er : r ≡ outcome v p) where
-    pub count_told : (told : Verdict) → v ≡ told → r.verdict ≡ told
-    count_told told e = rw er e
-
-    module _ (ok : Bool) (asked : ok ≡ is_accepted v) where
-      pub count_refused : not ok ≡ true → p ≡ passed k.rounding.state 0 0 → pass_of g r.passed ≡ item_counted r.verdict k key at g
-      count_refused h ep = rw (er, ep) (sym (refused_leaves v _ _ (turned_back_lem v ok asked h)))
-
-      pub count_done : not ok ≡ false → (l : List ℕ) → pass_of l p ≡ item_of k key at g → pass_of l r.passed ≡ item_counted r.verdict k key at g
-      count_done a l e = rw (er, let_pass v ok asked a) e
 
 -- ANOTHER CLOCK and another state change neither the key's cells nor what a recording does to them
 module _ (k : MicroCm) (clock : SubWindowClock) (σ : ℕ) where

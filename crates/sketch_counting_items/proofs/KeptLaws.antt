@@ -18,39 +18,19 @@ use Rattle.clock.specs.Clock.{n_of}
 use Rattle.sketch.specs.declared.MicroCm.{MicroCm}
 use Rattle.sketch.specs.declared.Passed.{Passed}
 use Rattle.sketch.specs.Sketch.{cells_of, key_cells, all_cells, insert_each, cross_each}
-use Rattle.sketch.specs.Refusals.{all_below, refuse_sketch, refuse_key, refuse_unsound, judged_cells, sketch_verdict, item_verdict, move_verdict}
+use Rattle.sketch.specs.Refusals.{all_below, refuse_sketch, refuse_unsound, judged_cells, sketch_verdict, move_verdict}
 use Rattle.sketch.specs.Workers.{Ready, Judged, Readable, SoundCells, pass_of}
-use Rattle.sketch.proofs.AddressLaws.{cells_few, cells_fit}
+use Rattle.sketch.proofs.AddressLaws.{cells_few}
 use Rattle.sketch.proofs.JudgedLaws.{judged_all, sound_cells}
 use Rattle.sketch.proofs.GridLaws.{Fits, cross_each_length}
 use Rattle.sketch.proofs.KeyLaws.{key_cells_below}
 use Rattle.sketch.proofs.WorldLaws.{Good, fits_key, none_unsound, insert_each_good, cross_each_good}
-use Rattle.sketch.proofs.ReadyLaws.{ready_of, alive_of, keyed_ready}
+use Rattle.sketch.proofs.ReadyLaws.{ready_of, alive_of}
 use Rattle.sketch.proofs.SketchGates.{sketch_gate}
-use Rattle.sketch_counting_items.specs.Workers.{SubWindows, SoundIf, Moves, Countable, cross_if}
-use Rattle.sketch_counting_items.proofs.VerdictCases.{keyed, keyed_gate}
+use Rattle.sketch_counting_items.specs.Workers.{SubWindows, SoundIf, Countable, cross_if}
 
 good_of : (k : MicroCm) (g : List ℕ) → sketch_verdict k g ≡ Accepted → Judged k g (all_cells k) → Good k g k.rounding.state
 good_of k g e w = record { whole = (ready_of k g e).size_is; alive = alive_of k g e; sound = λ j l. judged_all k g j w l }
-
--- AN ITEM that was accepted
-module _ (k : MicroCm) (key g : List ℕ) (clock : SubWindowClock) (number : ℕ) (holds : Bool) (v : Verdict)
-    (ev : v ≡ item_verdict k key g clock (refuse number holds)) (ok : Bool) (asked : ok ≡ is_accepted v) (a : not ok ≡ false) where
-  abbrev cells : Verdict
-  cells = refuse_unsound k g (judged_cells k clock (key_cells k 0 key)) Accepted
-
-  passed : (keyed k key g Accepted ≡ Accepted) × (refuse number holds cells ≡ Accepted)
-  passed = gate_passed (keyed k key g) (keyed_gate k key g) (refuse number holds cells) (sym ev ∙ let_pass v ok asked a)
-
-  pub item_countable : (at : SubWindows) → Moves k clock at → Countable k key g at
-  item_countable at w =
-      record {
-        whole = (gate_passed (refuse_sketch k g) (sketch_gate k g) (refuse_key k key Accepted) passed.0).0;
-        fits = (keyed_ready k key g passed.0).1;
-        judged = rw (w.before_is, w.after_is) (not_refused number holds cells passed.1).1;
-        grows = w.grows;
-        own_is = w.own_is;
-      }
 
 module _ (k : MicroCm) (key g : List ℕ) (at : SubWindows) (w : Countable k key g at) where
   ready : Ready k (length g)
@@ -153,9 +133,6 @@ module _ (k : MicroCm) (g : List ℕ) (clock : SubWindowClock) (number : ℕ) (h
 
   move_ready : Ready k (length g)
   move_ready = ready_of k g let_through.0
-
-  pub move_fit : k.rows * k.cols < 2 ^ 64
-  move_fit = cells_fit k (length g) move_ready
 
   -- where n rises every cell was judged
   pub move_sound : (old new : ℕ) → new ≡ n_of clock → old ≡ n_of k.clock → (new ≡ old → ⊥)

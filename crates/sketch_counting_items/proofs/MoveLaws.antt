@@ -1,5 +1,5 @@
 -- A move as the code makes it: by 0 a crossing does nothing, so cells cross only where n rose. Assumes nothing.
-use Prim.Native.Nat.{ℕ, ◌-◌, ◌*◌, ◌^◌, ◌≤◌, ◌<◌}
+use Prim.Native.Nat.{ℕ, ◌-◌}
 use mathlib.Core.Path.{◌≡◌, refl, sym}
 use mathlib.Core.Bool.{Bool, true, false, not}
 use mathlib.Core.List.{List}
@@ -9,32 +9,17 @@ use borrow.Author.Tests.{eqb-true, not-false}
 use Rattle.sketch.specs.declared.MicroCm.{MicroCm}
 use Rattle.sketch.specs.declared.Passed.{Passed}
 use Rattle.sketch.specs.Sketch.{cells_of, cross_each}
-use Rattle.sketch.specs.Workers.{SoundCells, pass_of}
+use Rattle.sketch.specs.Workers.{pass_of}
 use Rattle.sketch.proofs.GridLaws.{cross_none}
-use Rattle.sketch_counting_passes.specs.Workers.{cross_cells, passed}
-use Rattle.sketch_counting_items.specs.Workers.{SoundIf, cross_if}
+use Rattle.sketch_counting_passes.specs.Workers.{cross_cells}
+use Rattle.sketch_counting_items.specs.Workers.{cross_if}
 
 -- the two ways through `moved`
 module _ (moves : Bool) (k : MicroCm) (old new : ℕ) (g : List ℕ) (σ : ℕ) where
-  pub moves_sound : SoundIf moves k g → moves ≡ true → SoundCells k.params.t k.params.c (cells_of k) g
-  moves_sound s e = s.sound e
-
-  pub moves_fit : SoundIf moves k g → moves ≡ true → k.rows * k.cols < 2 ^ 64
-  moves_fit s e = omega (arith, (s.sound e).few)
-
   pub moves_crossed : moves ≡ true → (l : List ℕ) (r : Passed) → pass_of l r ≡ cross_cells k.params.t k.params.c (cells_of k) new (new - old) g σ
       → pass_of l r ≡ cross_if moves k old new g σ
   unfolding cross_each
   moves_crossed e l r er = rw e er
-
-  pub moves_none : moves ≡ false → (r : Passed) → r ≡ passed σ 0 0 → pass_of g r ≡ cross_if moves k old new g σ
-  moves_none e r er = rw (e, er) refl
-
-  pub none_drawn : (r : Passed) → r ≡ passed σ 0 0 → (most : ℕ) → r.draws ≤ most
-  none_drawn r er most = rw er (omega arith)
-
-  pub none_lost : (r : Passed) → r ≡ passed σ 0 0 → (most : ℕ) → r.lost ≤ most
-  none_lost r er most = rw er (omega arith)
 
 -- the test that spares a crossing by 0
 pub cross_rose : (k : MicroCm) (old new : ℕ) (moves : Bool) → moves ≡ not (eqb new old) → (g : List ℕ) (σ : ℕ)

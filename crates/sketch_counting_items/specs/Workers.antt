@@ -12,7 +12,6 @@ use Rattle.sketch.specs.Sketch.{cells_of, key_cells, all_cells, insert_each, cro
 use Rattle.sketch.specs.Refusals.{key_fits, sketch_verdict}
 use Rattle.sketch.specs.Workers.{Judged, SoundCells}
 use Rattle.sketch_counting_passes.specs.Workers.{passed}
-use Rattle.sketch_counting_items.specs.declared.worker.Counted.{Counted}
 
 -- the sub-windows of a call: before it, after it, and the item's own
 pub record SubWindows : Type 0 where
@@ -65,7 +64,3 @@ item_of k key at g =
 -- and nothing is done where it is refused
 abbrev pub item_counted : Verdict → MicroCm → List ℕ → SubWindows → List ℕ → Step
 item_counted v k key at g = when_accepted v (item_of k key at g) (still g k.rounding.state)
-
--- what an item did
-abbrev pub outcome : Verdict → Passed → Counted
-outcome v p = record { verdict = v; passed = p }

@@ -5,9 +5,10 @@ ghost use Rattle.refusal.specs.Refusals.{refuse};
 ghost use Rattle.sketch.specs.Sketch.{cells_of};
 ghost use Rattle.sketch.specs.Refusals.{item_verdict};
 ghost use Rattle.sketch.specs.Workers.{pass_of};
-ghost use Rattle.sketch_counting_items.specs.Workers.{SoundIf, Moves, Countable, windows, cross_if, in_a_row, item_of, outcome, item_counted};
+ghost use Rattle.sketch_counting_items.specs.Workers.{SoundIf, Moves, Countable, windows, cross_if, in_a_row, item_of, item_counted};
 
 use crate::judge;
+use cell::MicroParams;
 use clock::SubWindowClock;
 use refusal::Verdict;
 use sketch::{MicroCm, Passed};
@@ -20,12 +21,6 @@ pub struct Counted {
     pub passed: Passed,
 }
 
-fn outcome(verdict: Verdict, passed: Passed) -> Counted
-    ensures { result ≡ outcome verdict passed }
-{
-    Counted { verdict, passed }
-}
-
 // Where n stays no cell is looked at.
 fn moved(sketch: MicroCm, grid: &mut [u8], moves: bool, old: u64, new: u64, state: u64) -> Passed
     requires { SoundIf moves sketch grid.old × (old ≤ new) }
@@ -34,11 +29,15 @@ fn moved(sketch: MicroCm, grid: &mut [u8], moves: bool, old: u64, new: u64, stat
 {
     if moves {
         let begun = new - old;
-        let params = sketch.params;
+        let MicroParams { t, c } = sketch.params;
         let cells = sketch.rows * sketch.cols;
-        return worker::cross_cells(grid, params.t, params.c, cells, new, begun, state);
+        return worker::cross_cells(grid, t, c, cells, new, begun, state);
     }
-    worker::passed(state, 0, 0)
+    Passed {
+        state,
+        draws: 0,
+        lost: 0,
+    }
 }
 
 // What three passes, one after another, leave: the last one's state, and the draws and the losses of all.
@@ -47,9 +46,11 @@ fn in_a_row(first: Passed, second: Passed, third: Passed) -> Passed
     requires lost_bound { first.lost + second.lost + third.lost < 2 ^ 64 }
     ensures { result ≡ in_a_row first second third }
 {
-    let draws = first.draws + second.draws + third.draws;
-    let lost = first.lost + second.lost + third.lost;
-    worker::passed(third.state, draws, lost)
+    Passed {
+        state: third.state,
+        draws: first.draws + second.draws + third.draws,
+        lost: first.lost + second.lost + third.lost,
+    }
 }
 
 // An accepted item: the cells cross before it where it is not of the old sub-window, and after it where it is not of the new.
@@ -57,8 +58,7 @@ fn in_order(sketch: MicroCm, key: &[u32], grid: &mut [u8], old: u64, new: u64, n
     requires { Countable sketch key.now grid.old (windows old new n) }
     ensures { pass_of grid.new result ≡ item_of sketch key.now (windows old new n) grid.old }
 {
-    let rounding = sketch.rounding;
-    let before = moved(sketch, grid, n != old, old, new, rounding.state);
+    let before = moved(sketch, grid, n != old, old, new, sketch.rounding.state);
     let recorded = worker::insert_each(sketch, &key[..], grid, n, before.state);
     let last = moved(sketch, grid, new != n, old, new, recorded.state);
     in_a_row(before, recorded, last)
@@ -80,7 +80,6 @@ pub fn count(
     ensures verdict_value { result.verdict ≡ item_verdict sketch key.now grid.old after (refuse number holds) }
     ensures passed_after { pass_of grid.new result.passed ≡ item_counted result.verdict sketch key.now (windows old new n) grid.old }
 {
-    let rounding = sketch.rounding;
     let verdict = judge::item(
         sketch,
         &key[..],
@@ -91,7 +90,17 @@ pub fn count(
         holds,
     );
     if !verdict.accepted() {
-        return outcome(verdict, worker::passed(rounding.state, 0, 0));
+        return Counted {
+            verdict,
+            passed: Passed {
+                state: sketch.rounding.state,
+                draws: 0,
+                lost: 0,
+            },
+        };
     }
-    outcome(verdict, in_order(sketch, &key[..], grid, old, new, n))
+    Counted {
+        verdict,
+        passed: in_order(sketch, &key[..], grid, old, new, n),
+    }
 }

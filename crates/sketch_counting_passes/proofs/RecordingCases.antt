@@ -1,18 +1,15 @@
 -- An item in one cell of the grid, and in the key's cell of each row: what the code lends and leaves is what the definitions say. Assumes nothing.
-use Prim.Native.Nat.{ℕ, ◌+◌, ◌-◌, ◌*◌, ◌≤◌}
+use Prim.Native.Nat.{ℕ, ◌+◌, ◌-◌, ◌*◌}
 use mathlib.Core.Path.{◌≡◌, refl, ◌∙◌}
-use mathlib.Core.Bool.{true}
 use mathlib.Core.List.{List, ◌++◌}
 use native.Mathlib.Nat.{add-sub_cancel_left}
-use lib.ListN.{length, take, drop}
-use Rattle.laws.proofs.PartLaws.{part_length}
+use lib.ListN.{take, drop}
 use Rattle.cell.specs.declared.Drawn as cell
-use Rattle.cell.specs.Cell.{depth_of, sound_of}
+use Rattle.cell.specs.Cell.{depth_of}
 use Rattle.cell.specs.Insertion.{insert_of}
-use Rattle.cell.specs.Workers.{Fit, step_of}
+use Rattle.cell.specs.Workers.{step_of}
 use Rattle.sketch.specs.declared.MicroCm.{MicroCm}
 use Rattle.sketch.specs.Sketch.{cell_of, insert_at}
-use Rattle.sketch.specs.Workers.{Ready}
 
 -- ONE CELL, lent as the part of the grid from `start` on
 module _ (k : MicroCm) (g : List ℕ) (index start d : ℕ) (es : start ≡ index * depth_of k.params.t) (ed : d ≡ depth_of k.params.t) where
@@ -24,19 +21,6 @@ module _ (k : MicroCm) (g : List ℕ) (index start d : ℕ) (es : start ≡ inde
 
   lent_cell : take (start + d - start) (drop start g) ≡ cell_of k g index
   lent_cell = rw (es, ed, add-sub_cancel_left) refl
-
-  pub lent_sound : sound_of t c (cell_of k g index) ≡ true → sound_of t c (take (start + d - start) (drop start g)) ≡ true
-  lent_sound e = rw lent_cell e
-
-  pub lent_fit : Ready k (length g) → start + depth_of t ≤ length g → Fit t c (length (take (start + d - start) (drop start g)))
-  lent_fit r room =
-      record {
-        t_low = r.fit.t_low;
-        t_high = r.fit.t_high;
-        c_low = r.fit.c_low;
-        c_high = r.fit.c_high;
-        size_is = rw (ed, add-sub_cancel_left) (part_length start (depth_of t) g room);
-      }
 
   pub insert_left : (n σ : ℕ) (ys : List ℕ) (r : cell.Drawn) → step_of ys r ≡ insert_of t c n (take (start + d - start) (drop start g)) σ
       → step_of (take start g ++ (ys ++ drop (start + d - start) (drop start g))) r ≡ insert_at k n index g σ

@@ -1,5 +1,5 @@
 -- An item goes from row to row: what is left to do from here gives the whole, and the cells of the rows to come are as they were. Assumes nothing.
-use Prim.Native.Nat.{ℕ, suc, ◌+◌, ◌*◌, ◌^◌, ◌≤◌, ◌<◌}
+use Prim.Native.Nat.{ℕ, suc, ◌+◌, ◌*◌, ◌≤◌, ◌<◌}
 use mathlib.Core.Path.{◌≡◌, refl, sym, ap, ◌∙◌}
 use mathlib.Core.Bool.{true}
 use mathlib.Core.List.{List, [], ◌∷◌}
@@ -60,10 +60,6 @@ module _ (k : MicroCm) (n : ℕ) (key g₀ : List ℕ) (σ₀ : ℕ) where
     pub light : lost ≤ row
     pub most : row ≤ length key
 
-  pub recording_begin : Readable k key g₀ → Recording g₀ σ₀ 0 0 0
-  recording_begin w =
-      record { done = simp zero-add; judged = w.judged; ready = w.ready; few = omega arith; light = omega arith; most = omega arith }
-
   module _ (g : List ℕ) (σ drawn lost row : ℕ) (w : Recording g σ drawn lost row) where
     pub row_sound : (index : ℕ) → index ≡ key_cell k key row → row < length key → sound_of k.params.t k.params.c (cell_of k g index) ≡ true
     row_sound index e h = rw e (judged_cons k g (key_cell k key row) _ (rw (row_cons k key row h) at w.judged)).0
@@ -89,8 +85,8 @@ module _ (k : MicroCm) (n : ℕ) (key g₀ : List ℕ) (σ₀ : ℕ) where
       pub row_light : r.lost ≤ 1
       row_light = omega (arith, ap (λ (s : Step). s.lost) es, at_light k fit n index g σ room inside)
 
-      pub recording_on : r.draws ≤ 4098 → Recording ys r.state (drawn + r.draws) (lost + r.lost) (row + 1)
-      recording_on few = record {
+      row_done : r.draws ≤ 4098 → Recording ys r.state (drawn + r.draws) (lost + r.lost) (row + 1)
+      row_done few = record {
         done = w.done ∙ ap (λ (js : List ℕ). since drawn lost (insert_each k n js g σ)) (row_cons k key row more) ∙ next;
         judged = rw (add-one, bytes_are) (judged_same k g (insert_at k n index g σ).bytes (suc row) (drop (suc row) key)
             (λ i l. at_other k fit n index g σ room inside i (apart i l))
@@ -107,24 +103,15 @@ module _ (k : MicroCm) (n : ℕ) (key g₀ : List ℕ) (σ₀ : ℕ) where
               ap (since drawn lost) (each_cons k n (key_cell k key row) (key_cells k (suc row) (drop (suc row) key)) g σ (step_of ys r) (es ∙ rw ei refl))
               ∙ since_followed drawn lost (step_of ys r) _ ∙ rw add-one refl
 
+      pub recording_on : (d o : ℕ) → d ≡ r.draws → o ≡ r.lost → r.draws ≤ 4098 → Recording ys r.state (drawn + d) (lost + o) (row + 1)
+      recording_on d o ed eo few = rw (ed, eo) (row_done few)
+
     pub recording_end : (r : Passed) → length key ≤ row → r ≡ passed σ drawn lost → pass_of g r ≡ insert_each k n (key_cells k 0 key) g₀ σ₀
     unfolding key_cells insert_each
     recording_end r h e = rw e (sym (w.done ∙ rw (drop_of_length-le key h) (simp add-zero)))
 
-    drawn_few : key_fits k key ≡ true → drawn ≤ 128 * 4098
+    pub drawn_few : key_fits k key ≡ true → drawn ≤ 128 * 4098
     drawn_few fits = omega (arith, w.few, w.most, key_rows k key fits, w.ready.rows_high)
 
-    lost_few : key_fits k key ≡ true → lost ≤ 128
+    pub lost_few : key_fits k key ≡ true → lost ≤ 128
     lost_few fits = omega (arith, w.light, w.most, key_rows k key fits, w.ready.rows_high)
-
-    pub recording_few : key_fits k key ≡ true → (r : Passed) → r ≡ passed σ drawn lost → r.draws ≤ 128 * 4098
-    recording_few fits r e = rw e (drawn_few fits)
-
-    pub recording_light : key_fits k key ≡ true → (r : Passed) → r ≡ passed σ drawn lost → r.lost ≤ 128
-    recording_light fits r e = rw e (lost_few fits)
-
-    pub recording_room : key_fits k key ≡ true → (d : ℕ) → d ≤ 4098 → drawn + d < 2 ^ 64
-    recording_room fits d h = omega (arith, drawn_few fits)
-
-    pub loss_room : key_fits k key ≡ true → (d : ℕ) → d ≤ 1 → lost + d < 2 ^ 64
-    loss_room fits d h = omega (arith, lost_few fits)

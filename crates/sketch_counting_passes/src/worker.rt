@@ -5,18 +5,11 @@ ghost use Rattle.cell.specs.Cell.{slot_of, sound_of};
 ghost use Rattle.cell.specs.Workers.{step_of};
 ghost use Rattle.sketch.specs.Sketch.{cells_of, cell_of, key_cells, insert_at, insert_each};
 ghost use Rattle.sketch.specs.Workers.{Ready, Readable, SoundCells, pass_of};
-ghost use Rattle.sketch_counting_passes.specs.Workers.{cross_cells, passed};
+ghost use Rattle.sketch_counting_passes.specs.Workers.{cross_cells};
 
-use cell::Drawn;
+use cell::{Drawn, MicroParams};
 use sketch::{MicroCm, Passed};
 use sketch_judging::grid;
-
-// What a pass leaves beside the grid.
-pub fn passed(state: u64, draws: u64, lost: u64) -> Passed
-    ensures { result ≡ passed state draws lost }
-{
-    Passed { state, draws, lost }
-}
 
 fn insert_at(
     sketch: MicroCm,
@@ -31,11 +24,10 @@ fn insert_at(
     ensures result_after { step_of grid.new result ≡ insert_at sketch n index grid.old state }
     ensures draws_bound { result.draws ≤ 4098 }
 {
-    let params = sketch.params;
-    let t = params.t;
+    let MicroParams { t, c } = sketch.params;
     let start = grid::start_of(sketch, grid.len(), index);
     let end = start + cell_layout::fields::depth(t);
-    cell_insertion::worker::insert(&mut grid[start..end], t, params.c, n, slot, state)
+    cell_insertion::worker::insert(&mut grid[start..end], t, c, n, slot, state)
 }
 
 // The key's cell of each row, in order.
@@ -44,27 +36,22 @@ pub fn insert_each(sketch: MicroCm, key: &[u32], grid: &mut [u8], n: u64, state:
     ensures result_after { pass_of grid.new result ≡ insert_each sketch n (key_cells sketch 0 key.now) grid.old state }
     ensures draws_bound { (result.draws ≤ 128 * 4098) × (result.lost ≤ 128) }
 {
-    let params = sketch.params;
-    let slot = cell_layout::fields::slot(params.t, n);
+    let slot = cell_layout::fields::slot(sketch.params.t, n);
     let mut after = state;
     let mut draws: u64 = 0;
     let mut lost: u64 = 0;
-    let mut row: usize = 0;
-    while row < key.len() {
-        let drawn = insert_at(
-            sketch,
-            grid,
-            grid::key_cell(sketch, &key[..], row),
-            n,
-            slot,
-            after,
-        );
+    for row in 0..key.len() {
+        let index = grid::key_cell(sketch, &key[..], row);
+        let drawn = insert_at(sketch, grid, index, n, slot, after);
         after = drawn.state;
-        draws = draws + drawn.draws as u64;
-        lost = lost + drawn.lost as u64;
-        row += 1;
+        draws += u64::from(drawn.draws);
+        lost += u64::from(drawn.lost);
     }
-    passed(after, draws, lost)
+    Passed {
+        state: after,
+        draws,
+        lost,
+    }
 }
 
 // So many cells cross, in grid order.
@@ -88,9 +75,9 @@ pub fn cross_cells(
     // Of 32 bits, as a cell's is. With two sums of 64 the compiler reads a cell's draws and loss as one word, and the processor
     // waits for both writes.
     let mut lost: u32 = 0;
-    let mut start: usize = 0;
-    let mut index: usize = 0;
-    while index < count {
+    // By index: behind a loop over `chunks_exact_mut` a proof knows the grid's length, and not its bytes.
+    for index in 0..count {
+        let start = index * depth;
         let end = start + depth;
         let drawn = cell_crossing_steps::worker::enter_sub_window(
             &mut grid[start..end],
@@ -102,10 +89,12 @@ pub fn cross_cells(
             after,
         );
         after = drawn.state;
-        draws = draws + drawn.draws as u64;
-        lost = lost + drawn.lost;
-        start = end;
-        index += 1;
+        draws += u64::from(drawn.draws);
+        lost += drawn.lost;
     }
-    passed(after, draws, lost as u64)
+    Passed {
+        state: after,
+        draws,
+        lost: u64::from(lost),
+    }
 }

@@ -42,17 +42,14 @@ pub fn undrawn(verdict: Verdict, sketch: MicroCm) -> SketchAnswer
 pub fn went_on(sketch: MicroCm, clock: SubWindowClock, passed: Passed) -> SketchAnswer
     ensures { result ≡ went_on sketch clock passed }
 {
-    let params = sketch.params;
     SketchAnswer {
         verdict: Verdict::Accepted,
         sketch: MicroCm {
-            rows: sketch.rows,
-            cols: sketch.cols,
-            params,
             clock,
             rounding: Rounding {
                 state: passed.state,
             },
+            ..sketch
         },
         draws: passed.draws,
         lost: passed.lost,

@@ -28,6 +28,5 @@ pub fn start_of(sketch: MicroCm, size: usize, index: usize) -> usize
     requires { Ready sketch size × (index < cells_of sketch) }
     ensures { (result ≡ index * depth_of sketch.params.t) × (result + depth_of sketch.params.t ≤ size) }
 {
-    let params = sketch.params;
-    index * cell_layout::fields::depth(params.t)
+    index * cell_layout::fields::depth(sketch.params.t)
 }

@@ -17,24 +17,10 @@ use sketch::MicroCm;
 fn column_bits(cols: usize) -> usize
     ensures { (result ≡ bits_up_to 16 cols) × (result ≤ 16) }
 {
-    match cols {
-        2 => 1,
-        4 => 2,
-        8 => 3,
-        16 => 4,
-        32 => 5,
-        64 => 6,
-        128 => 7,
-        256 => 8,
-        512 => 9,
-        1024 => 10,
-        2048 => 11,
-        4096 => 12,
-        8192 => 13,
-        16384 => 14,
-        32768 => 15,
-        65536 => 16,
-        _ => 0,
+    if cols.is_power_of_two() && cols <= 65536 {
+        cols.ilog2() as usize
+    } else {
+        0
     }
 }
 
@@ -42,17 +28,9 @@ fn grid_fits(rows: usize, cols: usize) -> bool
     ensures { result ≡ grid_fits rows cols }
 {
     let bits = column_bits(cols);
-    if rows < 1 {
-        return false;
-    }
-    if bits < 1 {
-        return false;
-    }
-    // Tested before it is multiplied.
-    if rows > 128 {
-        return false;
-    }
-    rows * bits <= 128
+
+    // Rows is tested before it is multiplied.
+    rows >= 1 && bits >= 1 && rows <= 128 && rows * bits <= 128
 }
 
 // 1 to 4.
@@ -67,24 +45,21 @@ pub fn settings(rows: usize, cols: usize, params: MicroParams, clock: SubWindowC
     if !times.accepted() {
         return times;
     }
-    if grid_fits(rows, cols) {
-        return Verdict::Accepted;
+    if !grid_fits(rows, cols) {
+        return Verdict::Refused(4);
     }
-    Verdict::Refused(4)
+    Verdict::Accepted
 }
 
 // 1 to 5: a sketch's own numbers, before a byte of a grid or a store is looked at.
 pub fn numbers(sketch: MicroCm) -> Verdict
     ensures { result ≡ numbers_verdict sketch }
 {
-    let params = sketch.params;
-    let clock = sketch.clock;
-    let rounding = sketch.rounding;
-    let judged = settings(sketch.rows, sketch.cols, params, clock);
+    let judged = settings(sketch.rows, sketch.cols, sketch.params, sketch.clock);
     if !judged.accepted() {
         return judged;
     }
-    if rounding.state == 0 {
+    if sketch.rounding.state == 0 {
         return Verdict::Refused(5);
     }
     Verdict::Accepted
@@ -94,45 +69,27 @@ pub fn numbers(sketch: MicroCm) -> Verdict
 pub fn sketch(sketch: MicroCm, grid: &[u8]) -> Verdict
     ensures { result ≡ sketch_verdict sketch grid.now }
 {
-    let rows = sketch.rows;
-    let cols = sketch.cols;
-    let params = sketch.params;
-    let clock = sketch.clock;
-    let rounding = sketch.rounding;
-    let judged = settings(rows, cols, params, clock);
+    let judged = numbers(sketch);
     if !judged.accepted() {
         return judged;
     }
-    if rounding.state == 0 {
-        return Verdict::Refused(5);
+    if grid.len() != sketch.rows * sketch.cols * cell_layout::fields::depth(sketch.params.t) {
+        return Verdict::Refused(6);
     }
-    if grid.len() == rows * cols * cell_layout::fields::depth(params.t) {
-        return Verdict::Accepted;
-    }
-    Verdict::Refused(6)
+    Verdict::Accepted
 }
 
 // Whether each of these columns is below cols.
 pub fn all_below(key: &[u32], cols: usize) -> bool
     ensures { result ≡ all_below cols key.now }
 {
-    let mut row: usize = 0;
-    while row < key.len() {
-        if key[row] as usize >= cols {
-            return false;
-        }
-        row += 1;
-    }
-    true
+    key.iter().all(|col| (*col as usize) < cols)
 }
 
 fn key_fits(sketch: MicroCm, key: &[u32]) -> bool
     ensures { result ≡ key_fits sketch key.now }
 {
-    if key.len() == sketch.rows {
-        return all_below(key, sketch.cols);
-    }
-    false
+    key.len() == sketch.rows && all_below(key, sketch.cols)
 }
 
 // 1 to 7.
@@ -143,21 +100,20 @@ pub fn keyed(sketch: MicroCm, key: &[u32], grid: &[u8]) -> Verdict
     if !verdict.accepted() {
         return verdict;
     }
-    if key_fits(sketch, key) {
-        return Verdict::Accepted;
+    if !key_fits(sketch, key) {
+        return Verdict::Refused(7);
     }
-    Verdict::Refused(7)
+    Verdict::Accepted
 }
 
 fn cell_sound(sketch: MicroCm, grid: &[u8], index: usize) -> bool
     requires { Ready sketch (length grid.now) × (index < cells_of sketch) }
     ensures { result ≡ sound_of sketch.params.t sketch.params.c (cell_of sketch grid.now index) }
 {
-    let params = sketch.params;
-    let t = params.t;
+    let MicroParams { t, c } = sketch.params;
     let start = grid::start_of(sketch, grid.len(), index);
     let end = start + cell_layout::fields::depth(t);
-    cell_judging::judge::sound(&grid[start..end], t, params.c)
+    cell_judging::judge::sound(&grid[start..end], t, c)
 }
 
 // 14 over the key's cells.
@@ -165,13 +121,11 @@ pub fn key_cells(sketch: MicroCm, key: &[u32], grid: &[u8]) -> Verdict
     requires { Ready sketch (length grid.now) × (key_fits sketch key.now ≡ true) }
     ensures { result ≡ first_unsound Unsound Accepted sketch grid.now (key_cells sketch 0 key.now) }
 {
-    let mut row: usize = 0;
-    while row < key.len() {
+    for row in 0..key.len() {
         let index = grid::key_cell(sketch, key, row);
         if !cell_sound(sketch, grid, index) {
             return Verdict::Unsound(index);
         }
-        row += 1;
     }
     Verdict::Accepted
 }
@@ -181,13 +135,10 @@ pub fn all_cells(sketch: MicroCm, grid: &[u8]) -> Verdict
     requires { Ready sketch (length grid.now) }
     ensures { result ≡ first_unsound Unsound Accepted sketch grid.now (all_cells sketch) }
 {
-    let count = sketch.rows * sketch.cols;
-    let mut index: usize = 0;
-    while index < count {
+    for index in 0..sketch.rows * sketch.cols {
         if !cell_sound(sketch, grid, index) {
             return Verdict::Unsound(index);
         }
-        index += 1;
     }
     Verdict::Accepted
 }

@@ -6,12 +6,12 @@ use mathlib.Core.List.{List, []}
 use native.Mathlib.Nat.{add-sub_cancel_left}
 use lib.Dec.{leb}
 use lib.ListN.{length, take, drop}
-use borrow.Author.Tests.{le-leb, lt-leb, leb-false}
+use borrow.Author.Tests.{leb-false}
 use Rattle.refusal.specs.declared.Verdict.{Verdict}
-use Rattle.refusal.specs.declared.Verdict.TheVariants.{Accepted, Refused}
+use Rattle.refusal.specs.declared.Verdict.TheVariants.{Accepted}
 use Rattle.refusal.specs.Refusals.{is_accepted, refuse}
 use Rattle.refusal.proofs.VerdictLaws.{refused_leaves, turned_back_lem, let_pass, not_refused}
-use Rattle.refusal.proofs.GateLaws.{gate_open, gate_shut, gate_passed}
+use Rattle.refusal.proofs.GateLaws.{gate_passed}
 use Rattle.cell.specs.Cell.{depth_of}
 use Rattle.sketch.specs.declared.MicroCm.{MicroCm}
 use Rattle.sketch.specs.Sketch.{cell_index, cell_of}
@@ -27,25 +27,6 @@ neither false b e = (refl, e)
 module _ (k : MicroCm) (row col : ℕ) (g : List ℕ) where
   abbrev out_of_range : Bool
   out_of_range = leb k.rows row || leb k.cols col
-
-  -- THE CHECK
-  module _ (v : Verdict) (ev : v ≡ sketch_verdict k g) (ok : Bool) (asked : ok ≡ is_accepted v) where
-    pub check_refused : not ok ≡ true → v ≡ bucket_verdict k row col g
-    check_refused n = sym (gate_shut (refuse_sketch k g) (sketch_gate k g) _ v ev (turned_back_lem v ok asked n))
-
-    module _ (a : not ok ≡ false) where
-      range_left : bucket_verdict k row col g ≡ refuse 7 out_of_range Accepted
-      range_left = gate_open (refuse_sketch k g) (sketch_gate k g) (refuse 7 out_of_range Accepted) (sym ev ∙ let_pass v ok asked a)
-
-      pub row_refused : k.rows ≤ row → Refused 7 ≡ bucket_verdict k row col g
-      row_refused h = sym (range_left ∙ simp (le-leb _ _ h))
-
-      module _ (r : row < k.rows) where
-        pub col_refused : k.cols ≤ col → Refused 7 ≡ bucket_verdict k row col g
-        col_refused h = sym (range_left ∙ simp (lt-leb _ _ r, le-leb _ _ h))
-
-        pub check_passed : col < k.cols → v ≡ bucket_verdict k row col g
-        check_passed h = let_pass v ok asked a ∙ sym (range_left ∙ simp (lt-leb _ _ r, lt-leb _ _ h))
 
   -- THE PART
   module _ (v : Verdict) (ev : v ≡ bucket_verdict k row col g) (ok : Bool) (asked : ok ≡ is_accepted v) where
@@ -74,9 +55,6 @@ module _ (k : MicroCm) (row col : ℕ) (g : List ℕ) where
 
       pub bucket_cols : k.cols ≤ 65536
       bucket_cols = bucket_ready.cols_high
-
-      pub bucket_short : k.params.t ≤ 4096
-      bucket_short = bucket_ready.fit.t_high
 
       pub bucket_is : (index start d : ℕ) → index ≡ cell_index k row col → start ≡ index * depth_of k.params.t → d ≡ depth_of k.params.t
           → take (start + d - start) (drop start g) ≡ bucket_call k row col g

@@ -1,18 +1,17 @@
--- The highest zoom: each cell's is read from the part that is lent, and the largest of the cells before this one is kept. Assumes nothing.
-use Prim.Native.Nat.{ℕ, zero, suc, ◌+◌, ◌-◌, ◌*◌, ◌≤◌, ◌<◌, max}
+-- The highest zoom: the largest of the cells before this one is kept. Assumes nothing.
+use Prim.Native.Nat.{ℕ, zero, suc, ◌+◌, ◌-◌, ◌≤◌, ◌<◌, max}
 use mathlib.Core.Path.{◌≡◌, refl, sym, ap, ◌∙◌}
 use mathlib.Core.Bool.{Bool, true, false, not}
 use mathlib.Core.List.{List}
 use native.Mathlib.Omega.{arith}
-use native.Mathlib.Nat.{add-sub_cancel_left}
-use lib.ListN.{length, take, drop}
+use lib.ListN.{length}
 use Rattle.laws.specs.Sums.{largest}
 use Rattle.refusal.specs.declared.Verdict.{Verdict}
 use Rattle.refusal.specs.declared.Verdict.TheVariants.{Accepted}
 use Rattle.refusal.specs.Refusals.{is_accepted}
 use Rattle.refusal.proofs.VerdictLaws.{refused_leaves, turned_back_lem, let_pass}
-use Rattle.refusal.proofs.GateLaws.{gate_open, gate_shut, gate_passed}
-use Rattle.cell.specs.Cell.{depth_of, zoom_of}
+use Rattle.refusal.proofs.GateLaws.{gate_passed}
+use Rattle.cell.specs.Cell.{zoom_of}
 use Rattle.sketch.specs.declared.MicroCm.{MicroCm}
 use Rattle.sketch.specs.Sketch.{cells_of, cell_of, all_cells}
 use Rattle.sketch.specs.Audit.{highest_zoom}
@@ -33,11 +32,6 @@ largest_next (suc j) f h =
 module _ (k : MicroCm) (g : List ℕ) where
   abbrev zoom_at : ℕ → ℕ
   zoom_at j = zoom_of k.params.t (cell_of k g j)
-
-  -- ONE CELL
-  module _ (index start d : ℕ) (es : start ≡ index * depth_of k.params.t) (ed : d ≡ depth_of k.params.t) where
-    pub zoom_lent : (r : ℕ) → r ≡ zoom_of k.params.t (take (start + d - start) (drop start g)) → r ≡ zoom_at index
-    zoom_lent r e = e ∙ rw (es, ed, add-sub_cancel_left) refl
 
   -- THE CELLS before this one
   pub cells_some : (size : ℕ) → Ready k size → 0 < cells_of k
@@ -66,15 +60,9 @@ module _ (k : MicroCm) (g : List ℕ) where
 
   -- THE VERDICT
   module _ (v : Verdict) (ev : v ≡ sketch_verdict k g) (ok : Bool) (asked : ok ≡ is_accepted v) where
-    pub highest_refused : not ok ≡ true → v ≡ highest_verdict k g
-    highest_refused n = sym (gate_shut (refuse_sketch k g) (sketch_gate k g) (refuse_unsound k g (all_cells k) Accepted) v ev (turned_back_lem v ok asked n))
-
     module _ (a : not ok ≡ false) where
       pub passed_ready : Ready k (length g)
       passed_ready = ready_of k g (sym ev ∙ let_pass v ok asked a)
-
-      pub highest_cells : (w : Verdict) → w ≡ refuse_unsound k g (all_cells k) Accepted → w ≡ highest_verdict k g
-      highest_cells w ew = ew ∙ sym (gate_open (refuse_sketch k g) (sketch_gate k g) (refuse_unsound k g (all_cells k) Accepted) (sym ev ∙ let_pass v ok asked a))
 
   -- THE CALL
   module _ (v : Verdict) (ev : v ≡ highest_verdict k g) (ok : Bool) (asked : ok ≡ is_accepted v) where

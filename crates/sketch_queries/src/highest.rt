@@ -1,5 +1,5 @@
 // The present highest zoom of any cell.
-ghost use Rattle.std.specs.Prelude.{◌≡◌, ◌<◌, max, length};
+ghost use Rattle.std.specs.Prelude.{◌≡◌, ◌<◌, length};
 ghost use Rattle.cell.specs.Cell.{zoom_of};
 ghost use Rattle.sketch.specs.Sketch.{cells_of, cell_of};
 ghost use Rattle.sketch.specs.Audit.{highest_zoom};
@@ -25,29 +25,19 @@ fn zoom_at(sketch: MicroCm, grid: &[u8], index: usize) -> u8
     requires { Ready sketch (length grid.now) × (index < cells_of sketch) }
     ensures { result ≡ zoom_of sketch.params.t (cell_of sketch grid.now index) }
 {
-    let params = sketch.params;
-    let t = params.t;
+    let t = sketch.params.t;
     let start = grid::start_of(sketch, grid.len(), index);
     let end = start + cell_layout::fields::depth(t);
     cell_layout::fields::zoom(&grid[start..end], t)
-}
-
-fn larger(a: u8, b: u8) -> u8
-    ensures { result ≡ max a b }
-{
-    if a < b { b } else { a }
 }
 
 pub fn zoom(sketch: MicroCm, grid: &[u8]) -> u8
     requires { Ready sketch (length grid.now) }
     ensures { result ≡ highest_zoom sketch grid.now }
 {
-    let count = sketch.rows * sketch.cols;
     let mut highest = zoom_at(sketch, grid, 0);
-    let mut index: usize = 1;
-    while index < count {
-        highest = larger(highest, zoom_at(sketch, grid, index));
-        index += 1;
+    for index in 1..sketch.rows * sketch.cols {
+        highest = highest.max(zoom_at(sketch, grid, index));
     }
     highest
 }

@@ -18,10 +18,7 @@ pub fn bucket_check(sketch: MicroCm, row: usize, col: usize, grid: &[u8]) -> Ver
     if !verdict.accepted() {
         return verdict;
     }
-    if row >= sketch.rows {
-        return Verdict::Refused(7);
-    }
-    if col >= sketch.cols {
+    if row >= sketch.rows || col >= sketch.cols {
         return Verdict::Refused(7);
     }
     verdict
@@ -35,9 +32,8 @@ pub fn bucket_slice(sketch: MicroCm, row: usize, col: usize, grid: &[u8]) -> &[u
     if !verdict.accepted() {
         return &grid[0..0];
     }
-    let params = sketch.params;
     let start = grid::start_of(sketch, grid.len(), grid::cell_index(sketch, row, col));
-    let end = start + cell_layout::fields::depth(params.t);
+    let end = start + cell_layout::fields::depth(sketch.params.t);
     &grid[start..end]
 }
 

@@ -1,22 +1,20 @@
 -- The ways through the calls that read a key: each way out is what its definition gives there. Assumes nothing.
-use Prim.Native.Nat.{ℕ, ◌/◌, ◌≤◌, ◌<◌}
+use Prim.Native.Nat.{ℕ}
 use mathlib.Core.Path.{◌≡◌, refl, sym, ap, ◌∙◌}
 use mathlib.Core.Bool.{Bool, true, false, not, ◌&&◌}
 use mathlib.Core.List.{List}
 use lib.Ieee.{Float}
 use lib.ListN.{length}
-use borrow.Author.Tests.{lt-leb, le-leb}
 use Rattle.laws.specs.Unit.{in_unit}
 use Rattle.refusal.specs.declared.Verdict.{Verdict}
-use Rattle.refusal.specs.declared.Verdict.TheVariants.{Accepted, Refused}
-use Rattle.refusal.specs.Refusals.{is_accepted, refuse}
+use Rattle.refusal.specs.declared.Verdict.TheVariants.{Accepted}
+use Rattle.refusal.specs.Refusals.{is_accepted}
 use Rattle.refusal.proofs.VerdictLaws.{refused_leaves, turned_back_lem, let_pass, not_refused}
-use Rattle.refusal.proofs.GateLaws.{gate_open, gate_shut, gate_passed}
-use Rattle.clock.specs.Clock.{n_of, fraction_of}
-use Rattle.clock.specs.Workers.{GoodLength}
+use Rattle.refusal.proofs.GateLaws.{gate_passed}
+use Rattle.clock.specs.Clock.{fraction_of}
 use Rattle.sketch.specs.declared.MicroCm.{MicroCm}
 use Rattle.sketch.specs.declared.ReadingAnswer.{ReadingAnswer}
-use Rattle.sketch.specs.Figures.{under_of, over_of, begun_of, mean_of, has_oldest, one_reading}
+use Rattle.sketch.specs.Figures.{under_of, over_of, mean_of, has_oldest, one_reading}
 use Rattle.sketch.specs.Refusals.{key_fits, refuse_sketch, refuse_key, read_verdict, read_with_verdict, no_reading, reading_answer, read_call, read_with_call, mean_call}
 use Rattle.sketch.specs.Workers.{Ready, Readable}
 use Rattle.sketch.proofs.ReadyLaws.{keyed_ready}
@@ -24,26 +22,9 @@ use Rattle.sketch.proofs.ReadingLaws.{keyed, keyed_gate, cells, fraction_then}
 use Rattle.sketch_reading_figures.specs.declared.worker.Estimated.{Estimated}
 use Rattle.sketch_reading_figures.specs.Workers.{estimate_of}
 
--- THE FRACTION
-module _ (k : MicroCm) (fraction : Float) (n : ℕ) (en : n ≡ n_of k.clock) where
-  pub young_unused : n < k.params.t → false ≡ (has_oldest k && not (in_unit fraction))
-  young_unused h = rw (← en, lt-leb _ _ h) refl
-
-  pub oldest_used : (x : Bool) → x ≡ in_unit fraction → k.params.t ≤ n → not x ≡ (has_oldest k && not (in_unit fraction))
-  oldest_used x e h = rw (← en, le-leb _ _ h, e) refl
-
 -- THE VERDICTS
 module _ (k : MicroCm) (key g : List ℕ) where
   module _ (v : Verdict) (ev : v ≡ refuse_sketch k g (refuse_key k key Accepted)) (ok : Bool) (asked : ok ≡ is_accepted v) where
-    shut : (rest : Verdict) → not ok ≡ true → v ≡ keyed k key g rest
-    shut rest h = sym (gate_shut (keyed k key g) (keyed_gate k key g) rest v ev (turned_back_lem v ok asked h))
-
-    pub read_keyed : not ok ≡ true → v ≡ read_verdict k key g
-    read_keyed = shut (cells k key g)
-
-    pub read_with_keyed : (fraction : Float) → not ok ≡ true → v ≡ read_with_verdict k key fraction g
-    read_with_keyed fraction = shut (fraction_then k key g fraction)
-
     module _ (a : not ok ≡ false) where
       good : Ready k (length g) × (key_fits k key ≡ true)
       good = keyed_ready k key g (sym ev ∙ let_pass v ok asked a)
@@ -53,25 +34,6 @@ module _ (k : MicroCm) (key g : List ℕ) where
 
       pub keyed_fits : key_fits k key ≡ true
       keyed_fits = good.1
-
-      pub keyed_length : GoodLength k.clock
-      keyed_length = good.0.timed
-
-      open_to : (rest : Verdict) → keyed k key g rest ≡ rest
-      open_to rest = gate_open (keyed k key g) (keyed_gate k key g) rest (sym ev ∙ let_pass v ok asked a)
-
-      pub read_cells : (w : Verdict) → w ≡ cells k key g → w ≡ read_verdict k key g
-      read_cells w ew = ew ∙ sym (open_to (cells k key g))
-
-      module _ (fraction : Float) (bad : Bool) (eb : bad ≡ (has_oldest k && not (in_unit fraction))) where
-        left : read_with_verdict k key fraction g ≡ refuse 13 bad (cells k key g)
-        left = open_to (fraction_then k key g fraction) ∙ ap (λ (b : Bool). refuse 13 b (cells k key g)) (sym eb)
-
-        pub fraction_refused : bad ≡ true → Refused 13 ≡ read_with_verdict k key fraction g
-        fraction_refused t = sym (left ∙ rw t refl)
-
-        pub read_with_cells : bad ≡ false → (w : Verdict) → w ≡ cells k key g → w ≡ read_with_verdict k key fraction g
-        read_with_cells t w ew = ew ∙ sym (left ∙ rw t refl)
 
   -- what an accepted verdict says
   readable_then : (rest : Verdict) → (rest ≡ Accepted → cells k key g ≡ Accepted) → keyed k key g rest ≡ Accepted → Readable k key g
@@ -85,11 +47,6 @@ module _ (k : MicroCm) (key g : List ℕ) where
 
   readable_with : (fraction : Float) → read_with_verdict k key fraction g ≡ Accepted → Readable k key g
   readable_with fraction = readable_then (fraction_then k key g fraction) (λ e. (not_refused 13 (has_oldest k && not (in_unit fraction)) (cells k key g) e).1)
-
--- THE MEAN
-pub mean_made : (k : MicroCm) (key g : List ℕ) (under begun mean : ℕ) → under ≡ under_of k g key → begun ≡ begun_of k → mean ≡ under / begun
-    → mean ≡ mean_of k g key
-mean_made k key g under begun mean eu eb em = em ∙ rw (eu, eb) refl
 
 -- THE ANSWERS
 module _ (k : MicroCm) (key g : List ℕ) (v : Verdict) (ok : Bool) (asked : ok ≡ is_accepted v) where
@@ -122,9 +79,6 @@ module _ (k : MicroCm) (key g : List ℕ) (v : Verdict) (ok : Bool) (asked : ok 
     module _ (h : not ok ≡ false) where
       pub read_readable : Readable k key g
       read_readable = readable k key g (sym ev ∙ let_pass v ok asked h)
-
-      pub read_length : GoodLength k.clock
-      read_length = read_readable.ready.timed
 
       pub read_told : (fraction : Float) (e : Estimated) (r : ReadingAnswer) → fraction ≡ fraction_of k.clock → e ≡ estimate_of k g key fraction
           → r ≡ record { verdict = v; reading = e.reading; over = e.over; under = e.under } → r ≡ read_call k key g

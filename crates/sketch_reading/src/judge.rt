@@ -9,7 +9,8 @@ ghost use Rattle.sketch.specs.Refusals.{read_verdict, read_with_verdict};
 use refusal::Verdict;
 use sketch::MicroCm;
 
-// Whether x is a number from 0 to 1. Both tests fail for a NaN.
+// Whether x is a number from 0 to 1. Both tests fail for a NaN. Tried as `(0.0..=1.0).contains(&x)`, and not proved: it orders
+// floats by `partial_cmp`, and no law of the library ties that to `<=`.
 fn in_unit(x: f64) -> bool
     ensures { result ≡ in_unit x }
 {
@@ -21,12 +22,7 @@ fn misused(sketch: MicroCm, fraction: f64) -> bool
     requires { GoodLength sketch.clock }
     ensures { result ≡ (has_oldest sketch && not (in_unit fraction)) }
 {
-    let params = sketch.params;
-    let clock = sketch.clock;
-    if clock_steps::worker::sub_window(clock) < params.t as u64 {
-        return false;
-    }
-    !in_unit(fraction)
+    clock_steps::worker::sub_window(sketch.clock) >= sketch.params.t as u64 && !in_unit(fraction)
 }
 
 // A reading with the clock's fraction, or with none.

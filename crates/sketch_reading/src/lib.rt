@@ -30,10 +30,9 @@ fn turned_back(verdict: Verdict) -> ReadingAnswer
 fn told(verdict: Verdict, figures: Estimated) -> ReadingAnswer
     ensures { result ≡ record { verdict = verdict; reading = figures.reading; over = figures.over; under = figures.under } }
 {
-    let reading = figures.reading;
     ReadingAnswer {
         verdict,
-        reading,
+        reading: figures.reading,
         over: figures.over,
         under: figures.under,
     }
@@ -47,8 +46,7 @@ pub fn estimate(sketch: MicroCm, key: &[u32], grid: &[u8]) -> ReadingAnswer
     if !verdict.accepted() {
         return turned_back(verdict);
     }
-    let clock = sketch.clock;
-    let fraction = clock_steps::worker::fraction(clock);
+    let fraction = clock_steps::worker::fraction(sketch.clock);
     told(
         verdict,
         sketch_reading_figures::worker::estimate(sketch, grid, key, fraction),

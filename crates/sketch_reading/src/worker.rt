@@ -5,18 +5,13 @@ ghost use Rattle.sketch.specs.Workers.{Readable};
 
 use sketch::MicroCm;
 
-// n + 1 sub-windows have begun; a window has t. The test comes first, as n + 1 may have no place in 64 bits.
+// n + 1 sub-windows have begun; a window has t. The sum saturates, as n + 1 may have no place in 64 bits.
 fn begun(sketch: MicroCm) -> u64
     ensures { result ≡ begun_of sketch }
 {
-    let params = sketch.params;
-    let clock = sketch.clock;
-    let t = params.t as u64;
-    let n = clock_steps::worker::sub_window(clock);
-    if n < t {
-        return n + 1;
-    }
-    t
+    let t = sketch.params.t as u64;
+    let n = clock_steps::worker::sub_window(sketch.clock);
+    n.saturating_add(1).min(t)
 }
 
 // By itself, so that an edit can round otherwise and break nothing but this contract.

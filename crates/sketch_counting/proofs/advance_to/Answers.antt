@@ -1,23 +1,16 @@
 -- `advance_to`: as `update_at` without an item: the clock alone is moved.
 use Rattle.sketch_counting.proofs.CallLaws.{advance_refused, advance_stays, advance_crossed}
-use Rattle.sketch_counting_items.proofs.KeptLaws.{move_fit, move_sound}
-use Rattle.sketch_counting_items.proofs.VerdictCases.{crosses_told}
+use Rattle.sketch_counting_items.proofs.KeptLaws.{move_sound}
 use mathlib.Core.Path.{ap}
 use mathlib.Core.Bool.{not}
 use borrow.Author.Rules.{rules}
 use Rattle.sketch_counting.proofs.advance_to.Goals as goal
-
-pub movement-verdict-requires : goal.movement-verdict-requires
-movement-verdict-requires c = search (crosses_told, rules)
 
 pub returns-then-not-accepted : goal.returns-then-not-accepted
 returns-then-not-accepted c = search (advance_refused, rules)
 
 pub returns-then-new-old : goal.returns-then-new-old
 returns-then-new-old c = search (advance_stays, rules)
-
-pub overflow_mul-cells : goal.overflow_mul-cells
-overflow_mul-cells c = record { fits = search (move_fit, rules) }
 
 pub cross_cells-crossed-requires : goal.cross_cells-crossed-requires
 cross_cells-crossed-requires c = (search (move_sound, rules), search rules)

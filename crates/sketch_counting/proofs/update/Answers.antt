@@ -1,10 +1,7 @@
 -- `update`: the item is one of the sub-window that it finds, and the answer is what the definition gives there.
-use Rattle.sketch_counting.proofs.CallLaws.{ticked_windows, update_done}
+use Rattle.sketch_counting.proofs.CallLaws.{update_done}
 use borrow.Author.Rules.{rules}
 use Rattle.sketch_counting.proofs.update.Goals as goal
-
-pub count-counted-requires : goal.count-counted-requires
-count-counted-requires c = search (ticked_windows, rules)
 
 pub returns : goal.returns
 returns c = search (update_done, rules)

@@ -1,10 +1,7 @@
 -- `update_at`: as `update`, with the item in the sub-window of its own time.
-use Rattle.sketch_counting.proofs.CallLaws.{advanced_windows, update_at_done}
+use Rattle.sketch_counting.proofs.CallLaws.{update_at_done}
 use borrow.Author.Rules.{rules}
 use Rattle.sketch_counting.proofs.update_at.Goals as goal
-
-pub count-counted-requires : goal.count-counted-requires
-count-counted-requires c = search (advanced_windows, rules)
 
 pub returns : goal.returns
 returns c = search (update_at_done, rules)

@@ -1,5 +1,5 @@
 -- `bucket_slice`: what the check accepts has a cell in the grid, and the part is that cell. Assumes nothing.
-use Rattle.sketch_queries.proofs.BucketLaws.{bucket_none, bucket_ready, bucket_row, bucket_col, bucket_rows, bucket_cols, bucket_short, bucket_is}
+use Rattle.sketch_queries.proofs.BucketLaws.{bucket_none, bucket_ready, bucket_row, bucket_col, bucket_rows, bucket_cols, bucket_is}
 use borrow.Author.Rules.{rules}
 use Rattle.sketch_queries.proofs.bucket_slice.Goals as goal
 
@@ -11,9 +11,6 @@ cell_index-requires c = (search (bucket_row, rules), search (bucket_col, rules),
 
 pub start_of-start-requires : goal.start_of-start-requires
 start_of-start-requires c = (search (bucket_ready, rules), search rules)
-
-pub depth-requires : goal.depth-requires
-depth-requires c = search (bucket_short, rules)
 
 pub returns : goal.returns
 returns c = search (bucket_is, rules)

@@ -1,13 +1,10 @@
 -- `estimate`: a key that was let pass can be read, with the clock's fraction. Assumes nothing.
-use Rattle.sketch_reading.proofs.ReadLaws.{read_refused, read_length, read_readable, read_told}
+use Rattle.sketch_reading.proofs.ReadLaws.{read_refused, read_readable, read_told}
 use borrow.Author.Rules.{rules}
 use Rattle.sketch_reading.proofs.estimate.Goals as goal
 
 pub returns-then-not-accepted : goal.returns-then-not-accepted
 returns-then-not-accepted c = search (read_refused, rules)
-
-pub fraction-fraction-requires : goal.fraction-fraction-requires
-fraction-fraction-requires c = search (read_length, rules)
 
 pub estimate-requires : goal.estimate-requires
 estimate-requires c = search (read_readable, rules)

@@ -7,8 +7,5 @@ use Rattle.sketch_judging.proofs.grid.key_cell.Goals as goal
 pub bounds-key-row : goal.bounds-key-row
 bounds-key-row c = omega (arith, key_rows _ _ c.requires.3)
 
-pub overflow_cast-key : goal.overflow_cast-key
-overflow_cast-key c = omega (arith, c.shared_slice_known-2-1.given c.args.row)
-
 pub cell_index-requires : goal.cell_index-requires
 cell_index-requires c = (search rules, key_column _ _ c.requires.3 _ (search rules), search rules, search rules)

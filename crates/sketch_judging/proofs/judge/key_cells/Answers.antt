@@ -1,10 +1,7 @@
-use Rattle.sketch.proofs.JudgeLoops.{key_begin, key_found, key_on, key_end}
+use Rattle.sketch.proofs.JudgeLoops.{key_found, key_on, key_end}
 use Rattle.sketch.proofs.AddressLaws.{key_row}
 use borrow.Author.Rules.{rules}
 use Rattle.sketch_judging.proofs.judge.key_cells.Goals as goal
-
-pub loop-row-init : goal.loop-row-init
-loop-row-init c = search (key_begin, rules)
 
 pub key_cell-index-requires : goal.key_cell-index-requires
 key_cell-index-requires c = (search (key_row, rules), search rules, search rules, search rules)

@@ -6,5 +6,5 @@ use Rattle.sketch_judging.proofs.judge.key_fits.Goals as goal
 pub returns-then-key-sketch : goal.returns-then-key-sketch
 returns-then-key-sketch c = search (key_length, rules)
 
-pub returns : goal.returns
-returns c = search (key_other, rules)
+pub returns-else-key-sketch : goal.returns-else-key-sketch
+returns-else-key-sketch c = search (key_other, rules)

@@ -1,13 +1,7 @@
 -- `read`: 1 to 7, and then what the key's cells say. Assumes nothing.
-use Rattle.sketch_reading.proofs.ReadLaws.{read_keyed, keyed_grid, keyed_fits, read_cells}
+use Rattle.sketch_reading.proofs.ReadLaws.{keyed_grid, keyed_fits}
 use borrow.Author.Rules.{rules}
 use Rattle.sketch_reading.proofs.judge.read.Goals as goal
 
-pub returns-then-not-accepted : goal.returns-then-not-accepted
-returns-then-not-accepted c = search (read_keyed, rules)
-
 pub key_cells-requires : goal.key_cells-requires
 key_cells-requires c = (search (keyed_grid, rules), search (keyed_fits, rules))
-
-pub returns : goal.returns
-returns c = search (read_cells, rules)

@@ -1,19 +1,7 @@
 -- `read_with`: 1 to 7, then the fraction, and then what the key's cells say. Assumes nothing.
-use Rattle.sketch_reading.proofs.ReadLaws.{read_with_keyed, keyed_length, fraction_refused, keyed_grid, keyed_fits, read_with_cells}
+use Rattle.sketch_reading.proofs.ReadLaws.{keyed_grid, keyed_fits}
 use borrow.Author.Rules.{rules}
 use Rattle.sketch_reading.proofs.judge.read_with.Goals as goal
 
-pub returns-then-not-accepted : goal.returns-then-not-accepted
-returns-then-not-accepted c = search (read_with_keyed, rules)
-
-pub misused-requires : goal.misused-requires
-misused-requires c = search (keyed_length, rules)
-
-pub returns-then-misused : goal.returns-then-misused
-returns-then-misused c = search (fraction_refused, rules)
-
 pub key_cells-requires : goal.key_cells-requires
 key_cells-requires c = (search (keyed_grid, rules), search (keyed_fits, rules))
-
-pub returns : goal.returns
-returns c = search (read_with_cells, rules)
