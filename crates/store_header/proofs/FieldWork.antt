@@ -36,9 +36,10 @@ module _ (at width : ℕ) (b : List ℕ) where
   field_few r room h = rw (add-sub_cancel_left at width, part_length at width b room) at h
 
 -- THE HEADER
-pub settings_written : (k : MicroCm) (kind : ℕ) (b₀ b₁ b₂ b₃ b₄ b₅ b₆ : List ℕ) → kind ≡ kind_of k.clock
+pub settings_written : (k : MicroCm) (kind base : ℕ) (b₀ b₁ b₂ b₃ b₄ b₅ b₆ : List ℕ) → kind ≡ kind_of k.clock
+    → base ≡ k.params.c
     → Put 20 4 kind b₅ b₆
-    → Put 16 4 k.params.c b₄ b₅
+    → Put 16 4 base b₄ b₅
     → Put 12 4 k.params.t b₃ b₄
     → Put 8 4 k.cols b₂ b₃
     → Put 4 4 k.rows b₁ b₂
@@ -46,8 +47,8 @@ pub settings_written : (k : MicroCm) (kind : ℕ) (b₀ b₁ b₂ b₃ b₄ b₅
     → length b₆ ≡ 24
     → b₆ ≡ take 24 (header_of k)
 unfolding header_with bytes_of
-settings_written k kind b₀ b₁ b₂ b₃ b₄ b₅ b₆ ek e₆ e₅ e₄ e₃ e₂ e₁ long =
-    sym (take_all 24 b₆ (omega arith)) ∙ e₆.is ∙ rw (e₅.is, e₄.is, e₃.is, e₂.is, e₁.is, ek)
+settings_written k kind base b₀ b₁ b₂ b₃ b₄ b₅ b₆ ek eb e₆ e₅ e₄ e₃ e₂ e₁ long =
+    sym (take_all 24 b₆ (omega arith)) ∙ e₆.is ∙ rw (e₅.is, e₄.is, e₃.is, e₂.is, e₁.is, ek, eb)
 
 pub state_written : (k : MicroCm) (len epoch reading : ℕ) (b₀ b₁ b₂ b₃ b₄ : List ℕ)
     → len ≡ length_of k.clock → epoch ≡ epoch_of k.clock → reading ≡ reading_of k.clock
@@ -92,8 +93,8 @@ module _ (p : List ℕ) (form : ℕ) (ef : form ≡ field_of 4 0 p) where
       rest_wrong h = sym (judged ∙ rw h)
 
       module _ (zeros : not clear ≡ false) where
-        pub time_right : (kind ≡ 0 → ⊥) → false ≡ wrong_form p
-        time_right h = sym (judged ∙ rw (zeros, ne_eqb _ _ h))
+        pub time_right : (kind ≡ 0 → ⊥) → eqb kind 0 ≡ wrong_form p
+        time_right h = ne_eqb _ _ h ∙ sym (judged ∙ rw (zeros, ne_eqb _ _ h))
 
         pub count_judged : kind ≡ 0 → (epoch : ℕ) → epoch ≡ field_of 8 32 p → not (eqb epoch 0) ≡ wrong_form p
         count_judged h epoch ee = sym (judged ∙ rw (zeros, eq-eqb _ _ h, ← ee))

@@ -12,14 +12,8 @@ all_cells-cells-requires c = search (save_ready, rules)
 pub returns-then-not-accepted-2 : goal.returns-then-not-accepted-2
 returns-then-not-accepted-2 c = search (save_unsound, rules)
 
-pub grid_bytes-size-requires : goal.grid_bytes-size-requires
-grid_bytes-size-requires c = search (save_good, rules)
-
 pub returns-then-store-store_bytes : goal.returns-then-store-store_bytes
 returns-then-store-store_bytes c = search (save_length, rules)
-
-pub write-requires : goal.write-requires
-write-requires c = (search (save_exact, rules), search (save_room, rules))
 
 pub returns : goal.returns
 returns c = search (save_done, rules)

@@ -6,8 +6,5 @@ use Rattle.store_calls.proofs.store_length.Goals as goal
 pub returns-then-not-accepted : goal.returns-then-not-accepted
 returns-then-not-accepted c = search (length_refused, rules)
 
-pub grid_bytes-size-requires : goal.grid_bytes-size-requires
-grid_bytes-size-requires c = search (length_good, rules)
-
 pub returns : goal.returns
 returns c = search (length_told, rules)
