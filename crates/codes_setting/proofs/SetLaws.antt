@@ -1,24 +1,22 @@
 -- The ways through the setting of a list. Assumes nothing.
-use Prim.Native.Nat.{ℕ, suc, ◌+◌, ◌*◌, ◌/◌, ◌%◌, ◌≤◌, ◌<◌}
+use Prim.Native.Nat.{ℕ, ◌+◌, ◌*◌, ◌%◌, ◌≤◌, ◌<◌}
 use mathlib.Core.Path.{◌≡◌, refl, sym, ◌∙◌}
 use mathlib.Core.Bool.{Bool, true, false, not}
-use mathlib.Core.List.{List, ◌++◌, append_assoc}
+use mathlib.Core.List.{List, ◌++◌}
 use native.Mathlib.Omega.{arith}
-use native.Mathlib.Numerals.{add-one}
-use native.Mathlib.Nat.{mul-le-mul, mul-mod_left, mul-div_cancel, div-add-mod'}
+use native.Mathlib.Nat.{mul-le-mul, mul-mod_left}
 use lib.Dec.{eqb}
-use lib.ListN.{length, get_or, take, drop, set, length-set, length-take}
-use lib.Seq.{drop-cons, set_at, take-suc, take_all}
-use borrow.Author.Tests.{lt-ltb, le-ltb, eq-eqb, ne_eqb, not-true, not-false}
+use lib.ListN.{length, drop}
+use borrow.Author.Tests.{ne_eqb}
 use Rattle.refusal.specs.declared.Verdict.{Verdict}
-use Rattle.refusal.specs.declared.Verdict.TheVariants.{Accepted, Refused}
+use Rattle.refusal.specs.declared.Verdict.TheVariants.{Accepted}
 use Rattle.refusal.specs.Refusals.{is_accepted}
 use Rattle.refusal.proofs.VerdictLaws.{refused_leaves, turned_back_lem, let_pass}
-use Rattle.refusal.proofs.GateLaws.{gate_open, gate_shut, gate_passed}
+use Rattle.refusal.proofs.GateLaws.{gate_passed}
 use Rattle.sketch.specs.declared.MicroCm.{MicroCm}
 use Rattle.sketch.specs.Refusals.{all_below, numbers_verdict}
 use Rattle.sketch.proofs.SettingsLaws.{good_settings}
-use Rattle.sketch.proofs.SketchGates.{settings_of, settings_gate, judged, judged_gate}
+use Rattle.sketch.proofs.SketchGates.{settings_of, settings_gate}
 use Rattle.codes.specs.declared.Watch.{Watch}
 use Rattle.codes.specs.Codes.{onto}
 use Rattle.codes.specs.Refusals.{codes_fit, set_verdict, new_list, set_outcome, set_call}

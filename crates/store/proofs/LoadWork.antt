@@ -1,15 +1,12 @@
 -- The ways through a load: each way out is what its definition gives there.
-use Prim.Native.Nat.{ℕ, ◌+◌, ◌-◌, ◌*◌, ◌/◌, ◌%◌, ◌≤◌}
-use mathlib.Core.Path.{◌≡◌, refl, sym, ap, ◌∙◌}
+use Prim.Native.Nat.{ℕ, ◌+◌, ◌-◌, ◌*◌, ◌/◌, ◌≤◌}
+use mathlib.Core.Path.{◌≡◌, sym, ap, ◌∙◌}
 use mathlib.Core.Bool.{Bool, true, false, not}
 use mathlib.Core.List.{List}
-use lib.Dec.{eqb}
 use lib.ListN.{length}
 use native.Mathlib.Omega.{arith}
-use borrow.Author.Tests.{eqb-true, eqb-false, not-false}
 use Rattle.std.specs.Prelude.{Result, Ok, Err}
 use Rattle.laws.specs.Parts.{part}
-use Rattle.laws.proofs.PartLaws.{part_length}
 use Rattle.refusal.specs.declared.Verdict.{Verdict}
 use Rattle.refusal.specs.declared.Verdict.TheVariants.{Accepted}
 use Rattle.refusal.specs.Refusals.{is_accepted, and_then}
@@ -21,7 +18,6 @@ use Rattle.store_blocks.specs.Blocks.{carried}
 use Rattle.store_header.specs.Refusals.{wrong_form, header_verdict, header_in}
 use Rattle.store.specs.Refusals.{refuse_blocks, header_payload, grid_verdict, load_verdict, load_call}
 use Rattle.store_bytes.proofs.FillLaws.{part_take}
-use Rattle.store_header.proofs.HeaderLaws.{neither}
 use Rattle.store_header.proofs.AnswerLaws.{header_refused, sketch_said}
 use Rattle.refusal.proofs.GateLaws.{gate_open, gate_shut}
 use Rattle.store.proofs.GateLaws.{blocks_gate}

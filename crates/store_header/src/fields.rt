@@ -15,6 +15,7 @@ use store_bytes::bytes;
 // A count clock has no epoch; its field holds this.
 const NO_EPOCH: u64 = 0;
 
+// A number for a kind: it is document 01's, as it stands in the file.
 fn kind(clock: SubWindowClock) -> u64
     ensures { result ≡ kind_of clock }
 {
@@ -67,6 +68,7 @@ fn write_settings(out: &mut [u8], sketch: MicroCm)
     let params = sketch.params;
     let clock = sketch.clock;
     put_field(out, 0, 4, 1);
+    // `as`: the library has no `From` of a usize.
     put_field(out, 4, 4, sketch.rows as u64);
     put_field(out, 8, 4, sketch.cols as u64);
     put_field(out, 12, 4, params.t as u64);
@@ -100,6 +102,7 @@ pub fn wrong_form(payload: &[u8]) -> bool
     requires { length payload.now ≡ 504 }
     ensures { result ≡ wrong_form payload.now }
 {
+    // One test behind another: as one condition, each `||` of which joins two ways before the next, the proof did not close.
     if field(payload, 0, 4) != 1 {
         return true;
     }
@@ -137,6 +140,7 @@ pub fn sketch_in(payload: &[u8]) -> MicroCm
     requires { length payload.now ≡ 504 }
     ensures { result ≡ sketch_in payload.now }
 {
+    // `as`: four bytes fit, so that `try_from` would ask for an answer to an error that cannot come.
     let rows = field(payload, 4, 4) as usize;
     let cols = field(payload, 8, 4) as usize;
     let t = field(payload, 12, 4) as usize;

@@ -1,28 +1,24 @@
 -- The ways through the judges of a store's length, its blocks and its stored cells.
-use Prim.Native.Nat.{ℕ, ◌+◌, ◌-◌, ◌*◌, ◌/◌, ◌%◌, ◌^◌, ◌≤◌, ◌<◌}
+use Prim.Native.Nat.{ℕ, ◌+◌, ◌-◌, ◌*◌, ◌/◌, ◌^◌, ◌≤◌, ◌<◌}
 use mathlib.Core.Path.{◌≡◌, sym, ap, ◌∙◌}
 use mathlib.Core.Bool.{Bool, true, false, not, ◌&&◌}
 use mathlib.Core.List.{List}
 use lib.Dec.{leb, ltb}
-use lib.ListN.{length, drop, get_or}
+use lib.ListN.{length, get_or}
 use native.Mathlib.Omega.{arith}
-use native.Mathlib.Nat.{mul-le-mul, suc-mul}
-use borrow.Author.Tests.{eq-eqb, ne_eqb}
+use native.Mathlib.Nat.{mul-le-mul}
 use Rattle.laws.specs.Bytes.{number_of}
 use Rattle.laws.specs.Parts.{part}
 use Rattle.laws.proofs.PartLaws.{part_at, piece_room}
-use Rattle.refusal.specs.declared.Verdict.{Verdict}
-use Rattle.refusal.specs.declared.Verdict.TheVariants.{Accepted, Refused, Unsound}
+use Rattle.refusal.specs.declared.Verdict.TheVariants.{Accepted, Unsound}
 use Rattle.cell.specs.Cell.{pixels_of, zoom_at, shutter_at, depth_of, zoom_of, shutter_of, max_zoom, sound_of}
 use Rattle.cell.proofs.SoundLaws.{sound_read}
 use Rattle.sketch.specs.declared.MicroCm.{MicroCm}
 use Rattle.sketch.specs.Sketch.{cells_of, grid_bytes, cell_of, all_cells}
 use Rattle.sketch.specs.Refusals.{refuse_unsound, numbers_verdict}
 use Rattle.sketch.proofs.JudgeLoops.{AllLeft, all_found, all_on}
-use Rattle.store_bytes.specs.Fill.{all_zero}
-use Rattle.store_blocks.specs.Blocks.{blocks_pass, carried}
-use Rattle.store.specs.Store.{store_length}
-use Rattle.store.specs.Refusals.{refuse_blocks, grid_in, grid_verdict}
+use Rattle.store_blocks.specs.Blocks.{carried}
+use Rattle.store.specs.Refusals.{grid_in}
 use Rattle.store.specs.Workers.{Sized, Stored}
 use Rattle.store_bytes.proofs.FillLaws.{part_take, part_part}
 use Rattle.store.proofs.SettingsLaws.{settings_good, cells_limit, grid_limit}

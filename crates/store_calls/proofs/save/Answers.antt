@@ -1,5 +1,5 @@
 -- `store_calls::save` meets its contract. Each way out is what the definition gives there; all is judged before `write`.
-use Rattle.store_calls.proofs.SaveWork.{save_refused, save_ready, save_unsound, save_good, save_length, save_exact, save_room, save_done}
+use Rattle.store_calls.proofs.SaveWork.{save_refused, save_ready, save_unsound, save_length, save_done}
 use borrow.Author.Rules.{rules}
 use Rattle.store_calls.proofs.save.Goals as goal
 

@@ -1,5 +1,5 @@
 -- `store_calls::store_length` meets its contract. The length is that of the grid that judged settings have.
-use Rattle.store_calls.proofs.SaveWork.{length_refused, length_good, length_told}
+use Rattle.store_calls.proofs.SaveWork.{length_refused, length_told}
 use borrow.Author.Rules.{rules}
 use Rattle.store_calls.proofs.store_length.Goals as goal
 
