@@ -1,5 +1,5 @@
 -- The ways through the judges of an asking: each way out is the cause that holds first. Assumes nothing.
-use Prim.Native.Nat.{ℕ, ◌+◌, ◌*◌, ◌^◌, ◌≤◌, ◌<◌, min}
+use Prim.Native.Nat.{ℕ, ◌+◌, ◌*◌, ◌≤◌, ◌<◌, min}
 use mathlib.Core.Path.{◌≡◌, refl, sym, ◌∙◌}
 use mathlib.Core.Bool.{Bool, true, false, not, cond, ◌&&◌, ◌||◌, true≢false}
 use mathlib.Core.List.{List}
@@ -7,17 +7,17 @@ use native.Mathlib.Omega.{arith}
 use native.Mathlib.Numerals.{add-one}
 use native.Mathlib.Nat.{zero-mul, add-sub_cancel_left}
 use lib.Dec.{ltb, eqb}
-use lib.ListN.{length, take, length-take}
-use borrow.Author.Tests.{lt-ltb, le-ltb, eq-eqb, ne_eqb, eqb-true, not-true, not-false}
+use lib.ListN.{length, take}
+use borrow.Author.Tests.{lt-ltb, le-ltb, eq-eqb, ne_eqb, eqb-true, not-false}
 use Rattle.refusal.specs.declared.Verdict.{Verdict}
-use Rattle.refusal.specs.declared.Verdict.TheVariants.{Accepted, Refused, Unsound}
+use Rattle.refusal.specs.declared.Verdict.TheVariants.{Accepted, Unsound}
 use Rattle.refusal.specs.Refusals.{is_accepted, index_of}
 use Rattle.refusal.proofs.VerdictLaws.{refused_leaves, turned_back_lem, let_pass}
-use Rattle.refusal.proofs.GateLaws.{gate_open, gate_shut}
+use Rattle.refusal.proofs.GateLaws.{gate_open}
 use Rattle.sketch.specs.declared.MicroCm.{MicroCm}
 use Rattle.sketch.specs.Sketch.{cells_of, key_cells}
 use Rattle.sketch.specs.Audit.{first_unsound}
-use Rattle.sketch.specs.Refusals.{all_below, key_fits, refuse_sketch, refuse_unsound, sketch_verdict}
+use Rattle.sketch.specs.Refusals.{all_below, refuse_sketch, refuse_unsound, sketch_verdict}
 use Rattle.sketch.specs.Workers.{Ready}
 use Rattle.sketch.proofs.AddressLaws.{product_le}
 use Rattle.sketch.proofs.SketchGates.{sketch_gate}
@@ -60,16 +60,6 @@ module _ (k : MicroCm) (w : Watch) (columns : List ℕ) where
           rw m at e
       by false q false e = absurd (true≢false (sym e))
 
-  module _ (m : ℕ) (em : m ≡ min w.count 64) (few : k.rows ≤ 128) where
-    size_le : m * k.rows ≤ 8192
-    size_le = product_le m k.rows 64 128 (omega arith) few
-
-    pub size_fits : m * k.rows < 2 ^ 64
-    size_fits = omega (arith, size_le)
-
-    pub size_front : length columns ≡ 8192 → length (take (m * k.rows) columns) ≡ m * k.rows
-    size_front e = length-take (m * k.rows) columns ∙ omega (arith, size_le)
-
 -- A CODE'S COLUMNS, as they are lent
 module _ (k : MicroCm) (columns g : List ℕ) where
   -- each code of those that are held
@@ -85,12 +75,6 @@ module _ (k : MicroCm) (columns g : List ℕ) where
       }
 
   module _ (code : ℕ) (w : Placed k columns g code) where
-    pub cells_fit : k.rows * k.cols < 2 ^ 64
-    cells_fit = omega (arith, product_le k.rows k.cols 128 65536 w.ready.rows_high w.ready.cols_high)
-
-    pub lent_key : key_fits k (lent_code k columns code) ≡ true
-    lent_key = rw add-sub_cancel_left w.fits
-
     module _ (v : Verdict) (ev : v ≡ first_unsound Unsound Accepted k g (key_cells k 0 (lent_code k columns code)))
         (ok : Bool) (asked : ok ≡ is_accepted v) where
       same : v ≡ refuse_unsound k g (key_cells k 0 (code_in k.rows columns code)) Accepted
@@ -106,30 +90,14 @@ module _ (k : MicroCm) (columns g : List ℕ) where
       bad_named t j e = e ∙ sym (named ∙ rw (← asked, t) refl)
 
   -- ALL THE CODES
-  pub record Searching (count least code : ℕ) : Type 0 where
-    pub is : least ≡ least_bad k columns g code
-    pub most : code ≤ count
-
-  pub searching_begin : (count : ℕ) → Searching count (k.rows * k.cols) 0
+  pub searching_on : (least code bad : ℕ) → least ≡ least_bad k columns g code → bad ≡ bad_in k columns g code
+      → min least bad ≡ least_bad k columns g (code + 1)
   unfolding least_bad
-  searching_begin count = record { is = refl; most = omega arith }
+  searching_on least code bad s eb = rw (s, eb, add-one) refl
 
-  module _ (count : ℕ) (held : Held k columns g count) where
-    pub searched_fits : k.rows * k.cols < 2 ^ 64
-    searched_fits = omega (arith, product_le k.rows k.cols 128 65536 held.ready.rows_high held.ready.cols_high)
-
-    module _ (least code : ℕ) (s : Searching count least code) where
-      pub searching_placed : code < count → Placed k columns g code
-      searching_placed h = placed_of count code held h
-
-      pub searching_on : (bad least' : ℕ) → code < count → bad ≡ bad_in k columns g code → least' ≡ min least bad → Searching count least' (code + 1)
-      unfolding least_bad
-      searching_on bad least' h eb el = record { is = el ∙ rw (s.is, eb, add-one) refl; most = omega arith }
-
-      pub searching_end : count ≤ code → least ≡ least_bad k columns g count
-      searching_end h =
-          let e : code ≡ count = omega (arith, s.most) in
-          s.is ∙ rw e refl
+  pub searching_begin : cells_of k ≡ least_bad k columns g 0
+  unfolding least_bad
+  searching_begin = refl
 
 -- A SKETCH that was let pass, and codes that go with it
 pub held_below : (k : MicroCm) (w : Watch) (columns : List ℕ) (fits : Bool) → fits ≡ kept_fit k w columns → not fits ≡ false → w.count ≤ 64
@@ -146,46 +114,29 @@ module _ (k : MicroCm) (g : List ℕ) (v : Verdict) (ev : v ≡ sketch_verdict k
   pub ask_rows : k.rows ≤ 128
   ask_rows = ask_ready.rows_high
 
-  pub ask_cells : k.rows * k.cols < 2 ^ 64
-  ask_cells = omega (arith, product_le k.rows k.cols 128 65536 ask_ready.rows_high ask_ready.cols_high)
-
   ask_held : (w : Watch) (columns : List ℕ) (fits : Bool) → fits ≡ kept_fit k w columns → not fits ≡ false → w.count ≤ 64 → length columns ≡ 8192
       → Held k columns g w.count
   ask_held w columns fits ef b few long = record { ready = ask_ready; few = few; long = long; below = held_below k w columns fits ef b few }
 
 -- THE VERDICT
 module _ (k : MicroCm) (w : Watch) (columns g : List ℕ) (room : ℕ) (v : Verdict) (ev : v ≡ sketch_verdict k g) (ok : Bool) (asked : ok ≡ is_accepted v) where
-  pub ask_shut : not ok ≡ true → v ≡ ask_verdict k w columns g room
-  ask_shut n = sym (gate_shut (refuse_sketch k g) (sketch_gate k g) _ v ev (turned_back_lem v ok asked n))
-
   module _ (a : not ok ≡ false) (fits : Bool) (ef : fits ≡ kept_fit k w columns) where
     past : (rest : Verdict) → refuse_sketch k g rest ≡ rest
     past rest = gate_open (refuse_sketch k g) (sketch_gate k g) rest (let_pass_sketch k g v ev ok asked a)
 
-    pub ask_foreign : not fits ≡ true → Refused 7 ≡ ask_verdict k w columns g room
-    ask_foreign n = sym (past _ ∙ rw (← ef, not-true fits n) refl)
+    module _ (b : not fits ≡ false) (few : w.count ≤ 64) (enough : w.count ≤ room) (long : length columns ≡ 8192) (bad : ℕ) (eb : bad ≡ least_bad k columns g w.count) where
+      told : ask_verdict k w columns g room ≡ cond (ltb bad (cells_of k)) (Unsound bad) Accepted
+      told =
+          let held = ask_held k g v ev ok asked a w columns fits ef b few long in
+          past _
+          ∙ rw (← ef, not-false fits b, le-ltb 64 w.count few, le-ltb room w.count enough, eb)
+          (cells_told k g columns w.count (λ i h. (placed_of k columns g w.count i held h).fits))
 
-    module _ (b : not fits ≡ false) where
-      pub ask_many : 64 < w.count → Refused 19 ≡ ask_verdict k w columns g room
-      ask_many h = sym (past _ ∙ rw (← ef, not-false fits b, lt-ltb 64 w.count h) refl)
+      pub ask_unsound : bad < k.rows * k.cols → Unsound bad ≡ ask_verdict k w columns g room
+      ask_unsound h = sym (told ∙ rw (lt-ltb bad (cells_of k) h) refl)
 
-      module _ (few : w.count ≤ 64) where
-        pub ask_short : room < w.count → Refused 20 ≡ ask_verdict k w columns g room
-        ask_short h = sym (past _ ∙ rw (← ef, not-false fits b, le-ltb 64 w.count few, lt-ltb room w.count h) refl)
-
-        module _ (enough : w.count ≤ room) (long : length columns ≡ 8192) (bad : ℕ) (eb : bad ≡ least_bad k columns g w.count) where
-          told : ask_verdict k w columns g room ≡ cond (ltb bad (cells_of k)) (Unsound bad) Accepted
-          told =
-              let held = ask_held k g v ev ok asked a w columns fits ef b few long in
-              past _
-              ∙ rw (← ef, not-false fits b, le-ltb 64 w.count few, le-ltb room w.count enough, eb)
-              (cells_told k g columns w.count (λ i h. (placed_of k columns g w.count i held h).fits))
-
-          pub ask_unsound : bad < k.rows * k.cols → Unsound bad ≡ ask_verdict k w columns g room
-          ask_unsound h = sym (told ∙ rw (lt-ltb bad (cells_of k) h) refl)
-
-          pub ask_let_pass : k.rows * k.cols ≤ bad → Accepted ≡ ask_verdict k w columns g room
-          ask_let_pass h = sym (told ∙ rw (le-ltb bad (cells_of k) h) refl)
+      pub ask_let_pass : k.rows * k.cols ≤ bad → Accepted ≡ ask_verdict k w columns g room
+      ask_let_pass h = sym (told ∙ rw (le-ltb bad (cells_of k) h) refl)
 
 -- THE ANSWER
 module _ (k : MicroCm) (w : Watch) (columns limits g list : List ℕ)

@@ -1,18 +1,12 @@
 // What is judged before an asking: 1 to 6, the kept columns, how many codes there are, the room for the list, and then the
 // cells of all the codes and no others. Nothing is written here.
-ghost use Rattle.std.specs.Prelude.{◌≡◌, ◌≤◌, min, length};
+ghost use Rattle.std.specs.Prelude.{◌≡◌, ◌≤◌, length};
 ghost use Rattle.codes.specs.Refusals.{kept_fit, ask_verdict};
 ghost use Rattle.codes_asking.specs.Workers.{bad_in, least_bad, Held, Placed};
 
 use codes::Watch;
 use refusal::Verdict;
 use sketch::MicroCm;
-
-fn smaller(a: usize, b: usize) -> usize
-    ensures { result ≡ min a b }
-{
-    if a < b { a } else { b }
-}
 
 // 7: any value can be handed in, so the kept columns are judged again. Of a count that no setting leaves, the first 64.
 fn kept_fit(sketch: MicroCm, watch: Watch, columns: &[u32]) -> bool
@@ -25,7 +19,7 @@ fn kept_fit(sketch: MicroCm, watch: Watch, columns: &[u32]) -> bool
     if watch.rows != sketch.rows {
         return false;
     }
-    let size = smaller(watch.count, 64) * sketch.rows;
+    let size = watch.count.min(64) * sketch.rows;
     sketch_judging::judge::all_below(&columns[..size], sketch.cols)
 }
 
@@ -36,8 +30,7 @@ fn code_bad(sketch: MicroCm, columns: &[u32], code: usize, grid: &[u8]) -> usize
 {
     let rows = sketch.rows;
     let start = code * rows;
-    let end = start + rows;
-    let verdict = sketch_judging::judge::key_cells(sketch, &columns[start..end], grid);
+    let verdict = sketch_judging::judge::key_cells(sketch, &columns[start..start + rows], grid);
     if verdict.accepted() {
         return rows * sketch.cols;
     }
@@ -50,10 +43,8 @@ fn least_bad(sketch: MicroCm, columns: &[u32], count: usize, grid: &[u8]) -> usi
     ensures { result ≡ least_bad sketch columns.now grid.now count }
 {
     let mut least = sketch.rows * sketch.cols;
-    let mut code: usize = 0;
-    while code < count {
-        least = smaller(least, code_bad(sketch, columns, code, grid));
-        code += 1;
+    for code in 0..count {
+        least = least.min(code_bad(sketch, columns, code, grid));
     }
     least
 }

@@ -20,8 +20,8 @@ fn code_over(sketch: MicroCm, columns: &[u32], code: usize, grid: &[u8]) -> u64
 {
     let rows = sketch.rows;
     let start = code * rows;
-    let end = start + rows;
-    let figures = sketch_reading_figures::worker::estimate(sketch, grid, &columns[start..end], 0.0);
+    let key = &columns[start..start + rows];
+    let figures = sketch_reading_figures::worker::estimate(sketch, grid, key, 0.0);
     figures.over
 }
 
@@ -30,10 +30,7 @@ fn note(list: &mut [u8], listed: usize, code: usize, above: bool, before: u64) -
     requires { (listed < length list.old) × (code < 64) }
     ensures { Noted list.old listed code (above && not (flag_at before code)) list.new result }
 {
-    if !above {
-        return listed;
-    }
-    if (before >> code) % 2 == 1 {
+    if !above || (before >> code) % 2 == 1 {
         return listed;
     }
     list[listed] = code as u8;
@@ -44,10 +41,7 @@ fn with_flag(flags: u64, code: usize, above: bool) -> u64
     requires { (code < 64) × (flags < 2 ^ code) }
     ensures { result ≡ flags + cond above (2 ^ code) 0 }
 {
-    if above {
-        return flags + (1u64 << code);
-    }
-    flags
+    flags + (u64::from(above) << code)
 }
 
 pub fn list_new(
@@ -64,12 +58,10 @@ pub fn list_new(
 {
     let mut listed: usize = 0;
     let mut reached: u64 = 0;
-    let mut code: usize = 0;
-    while code < count {
+    for code in 0..count {
         let above = code_over(sketch, columns, code, grid) >= limits[code];
         listed = note(list, listed, code, above, before);
         reached = with_flag(reached, code, above);
-        code += 1;
     }
     Found { listed, reached }
 }

@@ -10,13 +10,7 @@ fn even(size: usize, count: usize, rows: usize) -> bool
     requires { 0 < rows }
     ensures { result ≡ eqb size (count * rows) }
 {
-    if size % rows != 0 {
-        return false;
-    }
-    if size / rows == count {
-        return true;
-    }
-    false
+    size % rows == 0 && size / rows == count
 }
 
 // 7.
@@ -24,10 +18,8 @@ fn codes_fit(sketch: MicroCm, columns: &[u32], count: usize) -> bool
     requires { 0 < sketch.rows }
     ensures { result ≡ codes_fit sketch columns.now count }
 {
-    if even(columns.len(), count, sketch.rows) {
-        return sketch_judging::judge::all_below(columns, sketch.cols);
-    }
-    false
+    even(columns.len(), count, sketch.rows)
+        && sketch_judging::judge::all_below(columns, sketch.cols)
 }
 
 pub fn setting(sketch: MicroCm, columns: &[u32], count: usize) -> Verdict

@@ -1,7 +1,6 @@
 -- A block is written in three parts, each where the one before it ends, and read in the same three.
 use Prim.Native.Nat.{ℕ, ◌+◌, ◌≤◌}
 use mathlib.Core.Path.{◌≡◌, sym, ap, ap₂, ◌∙◌}
-use mathlib.Core.Bool.{false}
 use mathlib.Core.List.{List, ◌++◌}
 use lib.Dec.{eqb}
 use lib.ListN.{length, take, drop, length-drop}
@@ -57,7 +56,7 @@ block_written number b u v w payload sum long eu ev es ew =
     three_parts 4 504 4 b u long lu v lv w (ap length seal ∙ bytes_length 4 sum) ∙ ap₂ ◌++◌ body (seal ∙ ap (bytes_of 4) total)
 
 module _ (number : ℕ) (b : List ℕ) (n : ℕ) (en : n ≡ number_of (take 4 b)) where
-  pub number_differs : (n ≡ number → ⊥) → false ≡ block_passes number b
+  pub number_differs : (n ≡ number → ⊥) → eqb n number ≡ block_passes number b
   unfolding block_passes
   number_differs h = rw (← en, ne_eqb _ _ h)
 

@@ -2,11 +2,12 @@
 use Prim.Native.Nat.{ℕ, zero, suc, ◌+◌, ◌-◌, ◌*◌, ◌^◌, ◌≤◌, ◌<◌}
 use mathlib.Core.Path.{◌≡◌, refl, sym, ap, ap₂, ◌∙◌}
 use mathlib.Core.Bool.{true, false, ◌&&◌, and-eq-true_iff}
-use mathlib.Core.List.{List, [], ◌∷◌, ◌++◌}
+use mathlib.Core.List.{List, [], ◌++◌}
 use lib.ListN.{length, take, drop, get_or, set, length-append, length-drop, take-append-drop}
 use lib.Seq.{take_at, drop_at, length-take-le, take-set-le, take-set-lt, get_or-take}
 use native.Mathlib.Omega.{arith}
 use native.Mathlib.Decide.{dec_lt}
+use Rattle.std.proofs.lemmas.List.{nil_from_length}
 use Rattle.laws.proofs.PartLaws.{part_length}
 use Rattle.store_bytes.specs.Fill.{filled}
 use Rattle.store_blocks.specs.Blocks.{block_of, blocks_from, block_passes, blocks_pass, payload_of, payloads_of}
@@ -22,10 +23,6 @@ from_suc number count l = refl
 pub from_zero : (number : ℕ) (l : List ℕ) → blocks_from number 0 l ≡ []
 unfolding blocks_from
 from_zero number l = refl
-
-empty : (l : List ℕ) → length l ≡ 0 → l ≡ []
-empty [] e = refl
-empty (x ∷ xs) e = absurd (omega arith)
 
 payloads_zero : (l : List ℕ) → payloads_of 0 l ≡ []
 unfolding payloads_of
@@ -138,7 +135,7 @@ blocks_changed number (suc count) l k v long passes h ne =
 -- their numbers and their payloads make the blocks
 pub blocks_back : (number count : ℕ) (l : List ℕ) → length l ≡ 512 * count → blocks_pass number count l ≡ true → Small l
     → blocks_from number count (payloads_of count l) ≡ l
-blocks_back number zero l long passes small = from_zero number (payloads_of 0 l) ∙ sym (empty l long)
+blocks_back number zero l long passes small = from_zero number (payloads_of 0 l) ∙ sym (nil_from_length l long)
 blocks_back number (suc count) l long passes small =
     let good = both number count l long passes in
     let h : length (take 512 l) ≡ 512 = head_long number count l long in

@@ -2,7 +2,7 @@
 -- a place that j alone tells.
 use Prim.Native.Nat.{ℕ, zero, suc, ◌+◌, ◌-◌, ◌*◌, ◌/◌, ◌%◌, ◌≤◌, ◌<◌}
 use mathlib.Core.Path.{◌≡◌, refl, sym, ap, ◌∙◌}
-use mathlib.Core.Bool.{Bool, true, false, not, ◌&&◌}
+use mathlib.Core.Bool.{Bool}
 use mathlib.Core.List.{List, ◌++◌, append_assoc, append-nil}
 use lib.ListN.{length, take, drop, get_or, length-drop, get_or-append}
 use lib.Seq.{take_all, take-add, drop-drop, get_or-take, get_or-drop, get_or-append-add, ext_get_or}
@@ -10,108 +10,69 @@ use native.Mathlib.Omega.{arith}
 use native.Mathlib.Nat.{add-sub_cancel_left}
 use native.Mathlib.Numerals.{add-one}
 use native.Mathlib.Decide.{dec_lt}
-use borrow.Author.Tests.{not-true, not-false}
 use Rattle.laws.specs.Parts.{part}
 use Rattle.laws.proofs.PartLaws.{part_length, part_at, splice_length, splice_taken}
 use Rattle.store_blocks.specs.Workers.{InBlock}
 use Rattle.store_bytes.specs.Fill.{filled, all_zero}
-use Rattle.store_blocks.specs.Blocks.{block_of, blocks_from, block_passes, blocks_pass, payload_of, payloads_of, carried}
+use Rattle.store_blocks.specs.Blocks.{block_of, blocks_from, payload_of, payloads_of, carried}
 use Rattle.store_bytes.proofs.FillLaws.{part_part, filled_is, filled_length, filled_at}
 use Rattle.store_blocks.proofs.BlockLaws.{block_length, block_same}
-use Rattle.store_blocks.proofs.ChainLaws.{from_zero, from_suc, pass_zero, pass_suc, payloads_suc, payload_length, payloads_length}
-use Rattle.store_bytes.proofs.ByteLoops.{Writing, writing_begin}
+use Rattle.store_blocks.proofs.ChainLaws.{from_zero, from_suc, payloads_suc, payload_length, payloads_length}
+
+-- WRITING a list into another, piece by piece
+pub record Writing (target b₀ b : List ℕ) (i : ℕ) : Type 0 where
+  pub done : take i b ≡ take i target
+  pub same : length b ≡ length b₀
+  pub long : length target ≡ length b₀
 
 -- WRITING BLOCKS
-pub record Filling (n : ℕ) (g b₀ b : List ℕ) (left number start at : ℕ) : Type 0 where
-  pub done : blocks_from 1 n g ≡ take start b ++ blocks_from number left (drop at g)
+pub record Filling (n : ℕ) (g b₀ b : List ℕ) (i : ℕ) : Type 0 where
+  pub done : blocks_from 1 n g ≡ take (i * 512) b ++ blocks_from (i + 1) (n - i) (drop (i * 504) g)
   pub same : length b ≡ length b₀
-  pub room : start + 512 * left ≡ length b₀
-  pub numbers : number + left ≡ 1 + n
-  pub inside : at + 504 * left < length g + 504
+  pub room : length b₀ ≡ 512 * n
+  pub inside : 504 * n < length g + 504
 
 module _ (g b₀ : List ℕ) where
-  pub filling_begin : length b₀ ≡ 512 * ((length g + 503) / 504) → Filling (length b₀ / 512) g b₀ b₀ (length b₀ / 512) 1 0 0
-  filling_begin e = record { done = refl; same = refl; room = omega arith; numbers = refl; inside = omega arith }
+  pub filling_begin : length b₀ ≡ 512 * ((length g + 503) / 504) → Filling (length b₀ / 512) g b₀ b₀ 0
+  filling_begin e =
+      let all : length b₀ / 512 - 0 ≡ length b₀ / 512 = omega arith in
+      record { done = rw all; same = refl; room = omega arith; inside = omega arith }
 
-  module _ (n : ℕ) (b : List ℕ) (left number start at : ℕ) (w : Filling n g b₀ b left number start at) where
-    pub filling_end : left ≤ 0 → b ≡ blocks_from 1 n g
+  module _ (n : ℕ) (b : List ℕ) (i : ℕ) (w : Filling n g b₀ b i) where
+    pub filling_end : n ≤ i → b ≡ blocks_from 1 n g
     filling_end h =
-        let e : left ≡ 0 = omega arith in
-        sym (w.done ∙ rw (e, from_zero) (append-nil (take start b) ∙ take_all start b (omega (arith, w.same, w.room))))
+        let e : n - i ≡ 0 = omega arith in
+        sym (w.done ∙ rw (e, from_zero) (append-nil (take (i * 512) b) ∙ take_all (i * 512) b (omega (arith, w.same, w.room))))
 
-    module _ (more : 0 < left) where
-      pub filling_room : start + 512 ≤ length b
+    module _ (more : i < n) where
+      filling_room : i * 512 + 512 ≤ length b
       filling_room = omega (arith, w.same, w.room)
 
-      pub filling_part : length (take (start + 512 - start) (drop start b)) ≡ 512
-      filling_part = rw (add-sub_cancel_left start 512) (part_length start 512 b filling_room)
-
-      pub filling_inside : at ≤ length g
-      filling_inside = omega (arith, w.inside)
-
-      pub filling_on : (y : List ℕ) → y ≡ block_of number (take (length g - at) (drop at g))
-          → Filling n g b₀ (take start b ++ (y ++ drop (start + 512 - start) (drop start b))) (left - 1) (number + 1) (start + 512) (at + 504)
+      pub filling_on : (y : List ℕ) → y ≡ block_of (i + 1) (take (length g - i * 504) (drop (i * 504) g))
+          → Filling n g b₀ (take (i * 512) b ++ (y ++ drop (i * 512 + 512 - i * 512) (drop (i * 512) b))) (i + 1)
       filling_on y whole =
-          let e : y ≡ block_of number (drop at g) = whole ∙ rw (take_all (length g - at) (drop at g) (simp length-drop (omega arith))) in
-          let behind = drop at g in
+          let behind = drop (i * 504) g in
+          let e : y ≡ block_of (i + 1) behind = whole ∙ rw (take_all (length g - i * 504) behind (simp length-drop (omega arith))) in
           let first = take 504 behind in
-          let one : left ≡ suc (left - 1) = omega arith in
-          let long : length y ≡ 512 = ap length e ∙ block_length number (drop at g) in
+          let one : n - i ≡ suc (n - (i + 1)) = omega arith in
+          let long : length y ≡ 512 = ap length e ∙ block_length (i + 1) behind in
           let alike : filled 504 behind ≡ filled 504 first =
           filled_is 504 behind (filled 504 first) (filled_length 504 first) (λ i h. sym (filled_at 504 first i h ∙ get_or-take 504 behind i 0 h))
           in
-          let cut : block_of number behind ≡ block_of number first = block_same number behind first alike in
-          let next : blocks_from number left behind ≡ y ++ blocks_from (suc number) (left - 1) (drop 504 behind) =
-          ap (λ (n : ℕ). blocks_from number n behind) one ∙ rw (from_suc number (left - 1), ← cut, ← e)
+          let cut : block_of (i + 1) behind ≡ block_of (i + 1) first = block_same (i + 1) behind first alike in
+          let next : blocks_from (i + 1) (n - i) behind ≡ y ++ blocks_from (suc (i + 1)) (n - (i + 1)) (drop 504 behind) =
+          ap (λ (n : ℕ). blocks_from (i + 1) n behind) one ∙ rw (from_suc (i + 1) (n - (i + 1)), ← cut, ← e)
           in
-          rw (add-sub_cancel_left start 512)
+          let a : i * 504 + 504 ≡ (i + 1) * 504 = omega arith in
+          let d : i * 512 + 512 ≡ (i + 1) * 512 = omega arith in
+          rw (add-sub_cancel_left (i * 512) 512)
           (record {
             done =
-                w.done ∙ rw (next, drop-drop 504 at g, splice_taken start 512 y b filling_room long) (simp (add-one, append_assoc));
-            same = splice_length start 512 y b filling_room long ∙ w.same;
-            room = omega (arith, w.room);
-            numbers = omega (arith, w.numbers);
-            inside = omega (arith, w.inside);
+                w.done ∙ rw (next, drop-drop 504 (i * 504) g, ← d, ← a, splice_taken (i * 512) 512 y b filling_room long) (simp (add-one, append_assoc));
+            same = splice_length (i * 512) 512 y b filling_room long ∙ w.same;
+            room = w.room;
+            inside = w.inside;
           })
-
--- JUDGING BLOCKS
-pub record Passing (l : List ℕ) (left number start : ℕ) : Type 0 where
-  pub done : blocks_pass 0 (length l / 512) l ≡ blocks_pass number left (drop start l)
-  pub room : start + 512 * left ≤ length l
-  pub numbers : number + left ≡ length l / 512
-
-module _ (l : List ℕ) where
-  pub passing_begin : Passing l (length l / 512) 0 0
-  passing_begin = record { done = refl; room = omega arith; numbers = omega arith }
-
-  module _ (left number start : ℕ) (w : Passing l left number start) where
-    pub passing_end : left ≤ 0 → true ≡ blocks_pass 0 (length l / 512) l
-    passing_end h =
-        let e : left ≡ 0 = omega arith in
-        sym (w.done ∙ rw (e, pass_zero))
-
-    module _ (more : 0 < left) where
-      pub passing_room : start + 512 ≤ length l
-      passing_room = omega (arith, w.room)
-
-      pub passing_part : length (take (start + 512 - start) (drop start l)) ≡ 512
-      passing_part = rw (add-sub_cancel_left start 512) (part_length start 512 l passing_room)
-
-      module _ (r : Bool) (e : r ≡ block_passes number (take (start + 512 - start) (drop start l))) where
-        next : blocks_pass 0 (length l / 512) l ≡ (r && blocks_pass (suc number) (left - 1) (drop (start + 512) l))
-        next =
-            let one : left ≡ suc (left - 1) = omega arith in
-            let q : blocks_pass number left (drop start l) ≡ blocks_pass number (suc (left - 1)) (drop start l) =
-            ap (λ (n : ℕ). blocks_pass number n (drop start l)) one
-            in
-            let here : block_passes number (part start 512 l) ≡ r = sym (rw (add-sub_cancel_left start 512) at e) in
-            w.done ∙ rw (q, pass_suc, here, drop-drop 512 start l)
-
-        pub passing_on : not r ≡ false → Passing l (left - 1) (number + 1) (start + 512)
-        passing_on t = record { done = next ∙ rw (not-false r t, add-one number); room = omega (arith, w.room); numbers = omega (arith, w.numbers) }
-
-        pub passing_not : not r ≡ true → false ≡ blocks_pass 0 (length l / 512) l
-        passing_not f = sym (next ∙ rw (not-true r f))
 
 -- WHERE BYTE j of what the blocks from 1 on carry stands
 payloads_at : (count : ℕ) (l : List ℕ) (j : ℕ) → 512 * count ≤ length l → j < 504 * count → get_or (payloads_of count l) j 0 ≡ get_or l (j + j / 504 * 8 + 4) 0
@@ -170,7 +131,7 @@ module _ (store : List ℕ) where
     target = part at (length out₀) (carried store)
 
     pub out_begin : Writing target out₀ out₀ 0
-    out_begin = writing_begin target out₀ (part_length at (length out₀) (carried store) (omega (arith, carried_length)))
+    out_begin = record { done = refl; same = refl; long = part_length at (length out₀) (carried store) (omega (arith, carried_length)) }
 
     module _ (out : List ℕ) (i : ℕ) (w : Writing target out₀ out i) (more : i < length out) (n : ℕ) (piece : InBlock (at + i) (length out - i) n) where
       abbrev place : ℕ
@@ -179,26 +140,22 @@ module _ (store : List ℕ) where
       here : at + i + n ≤ room
       here = omega (arith, w.same, piece.most)
 
-      pub out_room : i + n ≤ length out
+      out_room : i + n ≤ length out
       out_room = omega (arith, piece.most)
 
-      pub out_place : place ≤ length store
-      out_place = omega (arith, place_room (at + i) n piece.some piece.inside here)
+      out_place : place + n ≤ length store
+      out_place = place_room (at + i) n piece.some piece.inside here
 
       out_part : length (part i (i + n - i) out) ≡ n
       out_part = rw (add-sub_cancel_left i n) (part_length i n out out_room)
 
-      behind_place : take (length store - place) (drop place store) ≡ drop place store
-      behind_place = take_all (length store - place) (drop place store) (simp length-drop (omega arith))
+      from_part : length (part place (place + n - place) store) ≡ n
+      from_part = rw (add-sub_cancel_left place n) (part_length place n store out_place)
 
-      pub out_enough : length (take (i + n - i) (drop i out)) ≤ length (take (length store - place) (drop place store))
-      out_enough = rw (out_part, behind_place, length-drop place store) (omega (arith, place_room (at + i) n piece.some piece.inside here))
-
-      pub out_on : (y : List ℕ) → y ≡ take (length (take (i + n - i) (drop i out))) (take (length store - place) (drop place store))
-          → Writing target out₀ (take i out ++ (y ++ drop (i + n - i) (drop i out))) (i + n)
+      pub out_on : (y : List ℕ) → y ≡ part place (place + n - place) store → Writing target out₀ (take i out ++ (y ++ drop (i + n - i) (drop i out))) (i + n)
       out_on y ey =
-          let copied : y ≡ part place n store = ey ∙ rw (out_part, behind_place) in
-          let long : length y ≡ n = ap length copied ∙ part_length place n store (place_room (at + i) n piece.some piece.inside here) in
+          let copied : y ≡ part place n store = ey ∙ rw (add-sub_cancel_left place n) in
+          let long : length y ≡ n = ap length ey ∙ from_part in
           let e : part i n target ≡ part (at + i) n (carried store) = part_part at i n (length out₀) (carried store) (omega (arith, out_room, w.same)) in
           let same : part i n target ≡ y = e ∙ piece_is (at + i) n piece.some piece.inside here ∙ sym copied in
           rw (add-sub_cancel_left i n)

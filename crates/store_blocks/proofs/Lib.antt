@@ -3,3 +3,4 @@ pub mod ChainLaws
 pub mod BlockLoops
 pub mod BlockWork
 pub mod ChainLoops
+pub mod ChunkLaws

@@ -1,6 +1,6 @@
 // The block of 512 bytes: its number, 504 bytes of payload, and a sum that gives each byte a weight of its own, so that
 // no byte can change alone unseen.
-ghost use Rattle.std.specs.Prelude.{◌≡◌, ◌+◌, ◌*◌, ◌<◌, ◌≤◌, length};
+ghost use Rattle.std.specs.Prelude.{◌≡◌, ◌≤◌, length};
 ghost use Rattle.store_blocks.specs.Blocks.{weighed_from, block_of, block_passes};
 
 use store_bytes::bytes;
@@ -11,12 +11,8 @@ pub fn weighed(b: &[u8]) -> u64
     ensures { result ≡ weighed_from 0 b.now }
 {
     let mut sum: u64 = 0;
-    let mut i: usize = 0;
-    let mut weight: u64 = 1;
-    while i < b.len() {
-        sum = sum + bytes::wide(b[i]) * weight;
-        i += 1;
-        weight += 1;
+    for (i, x) in b.iter().enumerate() {
+        sum += u64::from(*x) * (i as u64 + 1);
     }
     sum
 }
@@ -36,8 +32,6 @@ pub fn passes(block: &[u8], number: u64) -> bool
     requires { length block.now ≡ 512 }
     ensures { result ≡ block_passes number block.now }
 {
-    if bytes::number(&block[0..4]) != number {
-        return false;
-    }
-    bytes::number(&block[508..512]) == weighed(&block[0..508])
+    bytes::number(&block[0..4]) == number
+        && bytes::number(&block[508..512]) == weighed(&block[0..508])
 }

@@ -13,17 +13,14 @@ pub fn write_blocks(blocks: &mut [u8], grid: &[u8])
     requires { length blocks.old ≡ 512 * ((length grid.now + 503) / 504) }
     ensures { blocks.new ≡ blocks_from 1 (length blocks.old / 512) grid.now }
 {
-    let mut left = blocks.len() / 512;
-    let mut number: u64 = 1;
-    let mut start: usize = 0;
-    let mut at: usize = 0;
-    while 0 < left {
-        let end = start + 512;
-        block::write_block(&mut blocks[start..end], number, &grid[at..]);
-        left -= 1;
-        number += 1;
-        start = end;
-        at += 504;
+    // By place: of what is written through the pieces of `chunks_mut` the proof knows no byte once they are given back.
+    for i in 0..blocks.len() / 512 {
+        let start = i * 512;
+        block::write_block(
+            &mut blocks[start..start + 512],
+            i as u64 + 1,
+            &grid[i * 504..],
+        );
     }
 }
 
@@ -31,19 +28,10 @@ pub fn write_blocks(blocks: &mut [u8], grid: &[u8])
 pub fn all_pass(store: &[u8]) -> bool
     ensures { result ≡ blocks_pass 0 (length store.now / 512) store.now }
 {
-    let mut left = store.len() / 512;
-    let mut number: u64 = 0;
-    let mut start: usize = 0;
-    while 0 < left {
-        let end = start + 512;
-        if !block::passes(&store[start..end], number) {
-            return false;
-        }
-        left -= 1;
-        number += 1;
-        start = end;
-    }
-    true
+    store
+        .chunks_exact(512)
+        .enumerate()
+        .all(|(i, block)| block::passes(block, i as u64))
 }
 
 // How many of the `left` bytes from byte j on stand in the block that carries byte j.
@@ -51,11 +39,7 @@ fn in_block(j: usize, left: usize) -> usize
     requires { 0 < left }
     ensures { InBlock j left result }
 {
-    let room = 504 - j % 504;
-    if left < room {
-        return left;
-    }
-    room
+    left.min(504 - j % 504)
 }
 
 // What the blocks from 1 on carry, from `at` on, as far as there is room: block by block, since each has its number and its
@@ -64,13 +48,15 @@ pub fn copy_out(out: &mut [u8], store: &[u8], at: usize)
     requires { at + length out.old ≤ 504 * (length store.now / 512 - 1) }
     ensures { out.new ≡ part at (length out.old) (carried store.now) }
 {
+    // Steps of two lengths, the first up to the end of the block that carries `at`: a `for` over blocks would need both ends
+    // of each piece, and of what is written through `chunks_mut` the proof knows no byte.
     let mut i: usize = 0;
     while i < out.len() {
         let j = at + i;
         let start = j + j / 504 * 8 + 516;
-        let end = i + in_block(j, out.len() - i);
-        bytes::copy(&mut out[i..end], &store[start..]);
-        i = end;
+        let size = in_block(j, out.len() - i);
+        out[i..i + size].copy_from_slice(&store[start..start + size]);
+        i += size;
     }
 }
 

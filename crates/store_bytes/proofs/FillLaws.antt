@@ -1,15 +1,16 @@
 -- Past its end a list reads 0, so filling it with zeros changes nothing that is read: two lists that read alike are filled alike.
-use Prim.Native.Nat.{ℕ, zero, suc, ◌+◌, ◌-◌, ◌≤◌, ◌<◌}
+use Prim.Native.Nat.{ℕ, zero, suc, min, ◌+◌, ◌-◌, ◌≤◌, ◌<◌}
 use mathlib.Core.Path.{◌≡◌, refl, sym, ap, ap₂, ◌∙◌}
 use mathlib.Core.Bool.{true, ◌&&◌, and-eq-true_iff}
 use mathlib.Core.List.{List, [], ◌∷◌, ◌++◌, append-nil}
 use lib.Dec.{eqb}
 use lib.ListN.{length, take, drop, get_or, set, replicate, length-take, length-drop, length-append, length-replicate}
 use lib.ListN.{drop_of_length-le, get_or-append, get_or-eq_default}
-use lib.Seq.{take_all, take_at, drop_at, drop-drop, ext_get_or, get_or-take, get_or-drop, get_or-append-add, drop-set-add}
+use lib.Seq.{take_all, take_at, length-take-le, drop_at, drop-drop, ext_get_or, get_or-take, get_or-drop, get_or-append-add, drop-set-add}
 use native.Mathlib.Omega.{arith}
 use native.Mathlib.Decide.{dec_lt}
 use borrow.Author.Tests.{eqb-true, eq-eqb}
+use Rattle.std.specs.List.{list_all}
 use Rattle.laws.specs.Parts.{part}
 use Rattle.laws.proofs.PartLaws.{part_at}
 use Rattle.laws.proofs.SmallLaws.{Small, small_take}
@@ -71,6 +72,14 @@ filled_length n l = simp (length-take, length-append, length-replicate) (omega a
 pub filled_at : (n : ℕ) (l : List ℕ) (i : ℕ) → i < n → get_or (filled n l) i 0 ≡ get_or l i 0
 filled_at n l i h = get_or-take n (l ++ replicate n 0) i 0 h ∙ zeros_alike l n i
 
+-- a list that has room is not changed by it
+pub alike_filled : (n : ℕ) (l : List ℕ) → length l ≤ n → Alike (filled n l) l
+alike_filled n l h i = by (dec_lt i n)
+  where
+    by : Dec (i < n) → get_or (filled n l) i 0 ≡ get_or l i 0
+    by (yes q) = filled_at n l i q
+    by (no q) = get_or-eq_default (filled n l) 0 (omega (arith, filled_length n l)) ∙ sym (get_or-eq_default l 0 (omega arith))
+
 pub filled_is : (n : ℕ) (l m : List ℕ) → length m ≡ n → ((i : ℕ) → i < n → get_or l i 0 ≡ get_or m i 0) → filled n l ≡ m
 filled_is n l m e h =
     ext_get_or 0 (filled n l) m (filled_length n l ∙ sym e)
@@ -82,40 +91,38 @@ filled_alike n l m a = filled_is n l (filled n m) (filled_length n m) (λ i h. a
 pub filled_full : (n : ℕ) (l : List ℕ) → length l ≡ n → filled n l ≡ l
 filled_full n l e = filled_is n l l e (λ i h. refl)
 
-pub filled_cut : (n : ℕ) (l y : List ℕ) → n ≤ length l → y ≡ take n l → y ≡ filled n l
-filled_cut n l y h e = e ∙ sym (filled_is n l (take n l) (simp length-take (omega arith)) (λ i q. sym (get_or-take n l i 0 q)))
+-- what there is room for, and zeros behind it
+module _ (b l y z : List ℕ) (n : ℕ) (en : n ≡ min (length l) (length b)) (ey : y ≡ take n l) where
+  abbrev fronted : List ℕ
+  fronted = y ++ drop n b
 
--- a list with room behind it
-module _ (b l : List ℕ) (short : length l < length b) where
-  pub front_room : length (take (length l) b) ≡ length l
-  front_room = simp length-take (omega arith)
+  front : length y ≡ n
+  front = rw ey (length-take-le n l (omega arith))
 
-  pub front_enough : length (take (length l) b) ≤ length l
-  front_enough = omega (arith, front_room)
+  rest : length (drop n b) ≡ length b - n
+  rest = length-drop n b
 
-  -- b with y written in front, and how much room is left behind it
-  abbrev fronted : List ℕ → List ℕ
-  fronted y = y ++ drop (length l) b
+  left : length fronted - n ≡ length b - n
+  left = omega (arith, length-append y (drop n b), front, rest)
 
-  abbrev left : List ℕ → ℕ
-  left y = length (fronted y) - length l
+  there : (i : ℕ) → i < length b → Dec (i < n) → get_or l i 0 ≡ get_or y i 0
+  there i h (yes q) = sym (rw ey (get_or-take n l i 0 q))
+  there i h (no q) = get_or-eq_default l 0 (omega arith) ∙ sym (get_or-eq_default y 0 (omega (arith, front)))
 
-  pub filled_behind : (y z : List ℕ) → y ≡ take (length (take (length l) b)) l
-      → z ≡ replicate (length (take (left y) (drop (length l) (fronted y)))) 0
-      → take (length l) (fronted y) ++ (z ++ drop (left y) (drop (length l) (fronted y))) ≡ filled (length b) l
-  filled_behind y z ey ez =
-      let n = length b - length l in
-      let front : y ≡ l = ey ∙ take_all (length (take (length l) b)) l (omega (arith, front_room)) in
-      let rest : length (drop (length l) b) ≡ n = length-drop (length l) b in
-      let left_is : left l ≡ n = omega (arith, length-append l (drop (length l) b), rest) in
-      let behind : drop (length l) (l ++ drop (length l) b) ≡ drop (length l) b = drop_at l (drop (length l) b) (length l) refl in
-      let over : length (drop (length l) b) ≤ n = omega (arith, rest) in
-      let none : drop n (drop (length l) b) ≡ [] = drop_of_length-le (drop (length l) b) over in
-      let room : length (take n (drop (length l) b)) ≡ n = ap length (take_all n (drop (length l) b) over) ∙ rest in
-      let zeros : z ≡ replicate n 0 = ez ∙ rw (front, left_is, behind, room) in
-      let long : length (l ++ replicate n 0) ≡ length b = length-append l (replicate n 0) ∙ simp length-replicate (omega arith) in
-      rw (front, left_is, behind, none, take_at l (drop (length l) b) (length l) refl, append-nil z, zeros)
-      (sym (filled_is (length b) l (l ++ replicate n 0) long (λ i h. sym (zeros_alike l n i))))
+  zeros_behind : filled (length b) l ≡ y ++ replicate (length b - n) 0
+  zeros_behind =
+      filled_is (length b) l (y ++ replicate (length b - n) 0) (length-append y (replicate (length b - n) 0) ∙ simp length-replicate (omega (arith, front)))
+      (λ i h. there i h (dec_lt i n) ∙ sym (zeros_alike y (length b - n) i))
+
+  pub filled_behind : z ≡ replicate (length (take (length fronted - n) (drop n fronted))) 0
+      → take n fronted ++ (z ++ drop (length fronted - n) (drop n fronted)) ≡ filled (length b) l
+  filled_behind ez =
+      let behind : drop n fronted ≡ drop n b = drop_at y (drop n b) n front in
+      let over : length (drop n b) ≤ length b - n = omega (arith, rest) in
+      let none : drop (length b - n) (drop n b) ≡ [] = drop_of_length-le (drop n b) over in
+      let room : length (take (length b - n) (drop n b)) ≡ length b - n = ap length (take_all (length b - n) (drop n b) over) ∙ rest in
+      let zeros : z ≡ replicate (length b - n) 0 = ez ∙ rw (left, behind, room) in
+      rw (left, behind, none, take_at y (drop n b) n front, append-nil z, zeros) (sym zeros_behind)
 
 pub filled_small : (n : ℕ) (l : List ℕ) → Small l → Small (filled n l)
 filled_small n l s = small_take n (l ++ replicate n 0) (λ i. rw (zeros_alike l n i) (s i))
@@ -142,6 +149,11 @@ filled_add n m l = sym (filled_is (n + m) l (filled n (take n l) ++ filled m (dr
     same i h = by i h (dec_lt i n)
 
 -- ZEROS
+pub asked_each : (l : List ℕ) → list_all (λ (x : ℕ). eqb x 0) l ≡ all_zero l
+unfolding all_zero
+asked_each [] = refl
+asked_each (x ∷ xs) = rw (asked_each xs)
+
 zero_alike : (l : List ℕ) → all_zero l ≡ true → Alike l []
 unfolding all_zero
 zero_alike [] z i = refl

@@ -1,2 +1,2 @@
 pub mod FillLaws
-pub mod ByteLoops
+pub mod NumberLaws

@@ -12,8 +12,8 @@ use Rattle.refusal.specs.declared.Verdict.TheVariants.{Accepted, Refused}
 use Rattle.refusal.specs.Refusals.{is_accepted}
 use Rattle.refusal.proofs.VerdictLaws.{refused_leaves, turned_back_lem, let_pass}
 use Rattle.sketch.specs.declared.MicroCm.{MicroCm}
-use Rattle.sketch.specs.Sketch.{grid_bytes, all_cells}
-use Rattle.sketch.specs.Refusals.{refuse_grid, refuse_sketch, refuse_unsound, sketch_verdict, numbers_verdict}
+use Rattle.sketch.specs.Sketch.{all_cells}
+use Rattle.sketch.specs.Refusals.{refuse_sketch, refuse_unsound, sketch_verdict, numbers_verdict}
 use Rattle.sketch.specs.Workers.{Ready}
 use Rattle.store_blocks.specs.Blocks.{block_of, blocks_from}
 use Rattle.store_header.specs.Workers.{header_of}
@@ -21,9 +21,9 @@ use Rattle.store.specs.Store.{store_length, store_of, store_with}
 use Rattle.store.specs.Refusals.{length_call, refuse_length, save_verdict, save_outcome, save_call}
 use Rattle.store.specs.Workers.{Sized, grid_blocks}
 use Rattle.store_blocks.proofs.BlockLaws.{block_length}
-use Rattle.refusal.proofs.GateLaws.{gate_open, gate_shut, gate_passed}
+use Rattle.refusal.proofs.GateLaws.{gate_open, gate_shut}
 use Rattle.sketch.proofs.ReadyLaws.{ready_of}
-use Rattle.sketch.proofs.SketchGates.{judged, judged_gate, sketch_gate, unsound_gate}
+use Rattle.sketch.proofs.SketchGates.{sketch_gate, unsound_gate}
 
 -- THE EXACT LENGTH
 module _ (k : MicroCm) (v : Verdict) (ok : Bool) (ev : v ≡ numbers_verdict k) (asked : ok ≡ is_accepted v) where
@@ -69,14 +69,8 @@ module _ (k : MicroCm) (g store : List ℕ) where
         (refuse_unsound k g (all_cells k) (refuse_length k store Accepted)) v ev (turned_back_lem v ok asked h))
 
     module _ (h : not ok ≡ false) where
-      pub save_good : numbers_verdict k ≡ Accepted
-      save_good = (gate_passed (judged k) (judged_gate k) (refuse_grid k g Accepted) (sym ev ∙ let_pass v ok asked h)).0
-
       pub save_ready : Ready k (length g)
       save_ready = ready_of k g (sym ev ∙ let_pass v ok asked h)
-
-      pub save_room : length g ≡ grid_bytes k
-      save_room = save_ready.size_is
 
       past : (rest : Verdict) → refuse_sketch k g rest ≡ rest
       past rest = gate_open (refuse_sketch k g) (sketch_gate k g) rest (sym ev ∙ let_pass v ok asked h)

@@ -1,5 +1,5 @@
 -- Each field is put behind those before it, and read where it was put.
-use Prim.Native.Nat.{ℕ, ◌+◌, ◌-◌, ◌^◌, ◌≤◌, ◌<◌}
+use Prim.Native.Nat.{ℕ, ◌+◌, ◌-◌, ◌≤◌, ◌<◌}
 use mathlib.Core.Path.{◌≡◌, sym, ap, ap₂, ◌∙◌}
 use mathlib.Core.Bool.{Bool, true, false, not, ◌&&◌, ◌||◌}
 use mathlib.Core.List.{List, [], ◌++◌, append-nil}
@@ -7,14 +7,10 @@ use lib.Dec.{eqb}
 use lib.ListN.{length, take, drop, length-drop, take-append-drop, drop_of_length-le}
 use lib.Seq.{take_all, take_at, drop_at}
 use native.Mathlib.Omega.{arith}
-use native.Mathlib.Nat.{add-sub_cancel_left}
 use borrow.Author.Tests.{eq-eqb, ne_eqb, lt-ltb, le-ltb}
-use Rattle.laws.specs.Bytes.{number_of, bytes_of}
+use Rattle.laws.specs.Bytes.{bytes_of}
 use Rattle.laws.specs.Parts.{part}
-use Rattle.laws.proofs.ByteLaws.{bytes_length}
-use Rattle.laws.proofs.PartLaws.{part_length, splice_taken}
 use Rattle.clock.specs.declared.SubWindowClock.{SubWindowClock}
-use Rattle.clock.specs.declared.SubWindowClock.TheVariants.{CountBased, TimeBased}
 use Rattle.clock.specs.Clock.{length_of, reading_of}
 use Rattle.sketch.specs.declared.MicroCm.{MicroCm}
 use Rattle.store_bytes.specs.Fill.{all_zero}
@@ -22,23 +18,11 @@ use Rattle.store_header.specs.Header.{kind_of, epoch_of, field_of, clock_in, ske
 use Rattle.store_header.specs.Refusals.{wrong_form, other_form}
 use Rattle.store_header.specs.Workers.{Put, header_of}
 
-module _ (at width : ℕ) (b : List ℕ) where
-  pub field_put : (n : ℕ) (y : List ℕ) → at + width ≤ length b → y ≡ bytes_of (length (take (at + width - at) (drop at b))) n
-      → Put at width n b (take at b ++ (y ++ drop (at + width - at) (drop at b)))
-  field_put n y room e =
-      let put : y ≡ bytes_of width n = e ∙ rw (add-sub_cancel_left at width, part_length at width b room) in
-      record { is = rw (add-sub_cancel_left at width) (splice_taken at width y b room (ap length put ∙ bytes_length width n) ∙ rw put) }
-
-  pub field_is : (r : ℕ) → r ≡ number_of (take (at + width - at) (drop at b)) → r ≡ field_of width at b
-  field_is r e = e ∙ rw (add-sub_cancel_left at width)
-
-  pub field_few : (r : ℕ) → at + width ≤ length b → r < 256 ^ length (take (at + width - at) (drop at b)) → r < 256 ^ width
-  field_few r room h = rw (add-sub_cancel_left at width, part_length at width b room) at h
-
 -- THE HEADER
-pub settings_written : (k : MicroCm) (kind : ℕ) (b₀ b₁ b₂ b₃ b₄ b₅ b₆ : List ℕ) → kind ≡ kind_of k.clock
+pub settings_written : (k : MicroCm) (kind base : ℕ) (b₀ b₁ b₂ b₃ b₄ b₅ b₆ : List ℕ) → kind ≡ kind_of k.clock
+    → base ≡ k.params.c
     → Put 20 4 kind b₅ b₆
-    → Put 16 4 k.params.c b₄ b₅
+    → Put 16 4 base b₄ b₅
     → Put 12 4 k.params.t b₃ b₄
     → Put 8 4 k.cols b₂ b₃
     → Put 4 4 k.rows b₁ b₂
@@ -46,8 +30,8 @@ pub settings_written : (k : MicroCm) (kind : ℕ) (b₀ b₁ b₂ b₃ b₄ b₅
     → length b₆ ≡ 24
     → b₆ ≡ take 24 (header_of k)
 unfolding header_with bytes_of
-settings_written k kind b₀ b₁ b₂ b₃ b₄ b₅ b₆ ek e₆ e₅ e₄ e₃ e₂ e₁ long =
-    sym (take_all 24 b₆ (omega arith)) ∙ e₆.is ∙ rw (e₅.is, e₄.is, e₃.is, e₂.is, e₁.is, ek)
+settings_written k kind base b₀ b₁ b₂ b₃ b₄ b₅ b₆ ek eb e₆ e₅ e₄ e₃ e₂ e₁ long =
+    sym (take_all 24 b₆ (omega arith)) ∙ e₆.is ∙ rw (e₅.is, e₄.is, e₃.is, e₂.is, e₁.is, ek, eb)
 
 pub state_written : (k : MicroCm) (len epoch reading : ℕ) (b₀ b₁ b₂ b₃ b₄ : List ℕ)
     → len ≡ length_of k.clock → epoch ≡ epoch_of k.clock → reading ≡ reading_of k.clock
@@ -92,20 +76,13 @@ module _ (p : List ℕ) (form : ℕ) (ef : form ≡ field_of 4 0 p) where
       rest_wrong h = sym (judged ∙ rw h)
 
       module _ (zeros : not clear ≡ false) where
-        pub time_right : (kind ≡ 0 → ⊥) → false ≡ wrong_form p
-        time_right h = sym (judged ∙ rw (zeros, ne_eqb _ _ h))
+        pub time_right : (kind ≡ 0 → ⊥) → eqb kind 0 ≡ wrong_form p
+        time_right h = ne_eqb _ _ h ∙ sym (judged ∙ rw (zeros, ne_eqb _ _ h))
 
         pub count_judged : kind ≡ 0 → (epoch : ℕ) → epoch ≡ field_of 8 32 p → not (eqb epoch 0) ≡ wrong_form p
         count_judged h epoch ee = sym (judged ∙ rw (zeros, eq-eqb _ _ h, ← ee))
 
 -- WHAT A HEADER SAYS
-module _ (p : List ℕ) (len reading kind : ℕ) (el : len ≡ field_of 8 24 p) (er : reading ≡ field_of 8 40 p) (ek : kind ≡ field_of 4 20 p) where
-  pub clock_counts : kind ≡ 0 → CountBased len reading ≡ clock_in p
-  clock_counts h = rw (← ek, eq-eqb _ _ h, el, er)
-
-  pub clock_tells : (kind ≡ 0 → ⊥) → (epoch : ℕ) → epoch ≡ field_of 8 32 p → TimeBased len epoch reading ≡ clock_in p
-  clock_tells h epoch ee = rw (← ek, ne_eqb _ _ h, el, er, ee)
-
 pub sketch_is : (p : List ℕ) (rows cols t c state : ℕ) (clock : SubWindowClock) → rows ≡ field_of 4 4 p → cols ≡ field_of 4 8 p → t ≡ field_of 4 12 p
     → c ≡ field_of 4 16 p
     → clock ≡ clock_in p → state ≡ field_of 8 48 p

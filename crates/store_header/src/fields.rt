@@ -5,9 +5,9 @@ ghost use Rattle.clock.specs.Clock.{reading_of};
 ghost use Rattle.store_header.specs.Refusals.{wrong_form, header_in};
 ghost use Rattle.store_header.specs.Workers.{Put, header_of};
 
-use crate::Header;
 use cell::MicroParams;
 use clock::SubWindowClock;
+use refusal::Verdict;
 use rounding::Rounding;
 use sketch::MicroCm;
 use store_bytes::bytes;
@@ -15,6 +15,7 @@ use store_bytes::bytes;
 // A count clock has no epoch; its field holds this.
 const NO_EPOCH: u64 = 0;
 
+// A number for a kind: it is document 01's, as it stands in the file.
 fn kind(clock: SubWindowClock) -> u64
     ensures { result ≡ kind_of clock }
 {
@@ -48,8 +49,7 @@ fn put_field(out: &mut [u8], at: usize, width: usize, n: u64)
     requires { at + width ≤ length out.old }
     ensures { Put at width n out.old out.new }
 {
-    let end = at + width;
-    bytes::put_number(&mut out[at..end], n);
+    bytes::put_number(&mut out[at..at + width], n);
 }
 
 fn field(payload: &[u8], at: usize, width: usize) -> u64
@@ -57,8 +57,7 @@ fn field(payload: &[u8], at: usize, width: usize) -> u64
     ensures value { result ≡ field_of width at payload.now }
     ensures upper_bound { result < 256 ^ width }
 {
-    let end = at + width;
-    bytes::number(&payload[at..end])
+    bytes::number(&payload[at..at + width])
 }
 
 // The form and the settings, 24 bytes.
@@ -69,10 +68,11 @@ fn write_settings(out: &mut [u8], sketch: MicroCm)
     let params = sketch.params;
     let clock = sketch.clock;
     put_field(out, 0, 4, 1);
+    // `as`: the library has no `From` of a usize.
     put_field(out, 4, 4, sketch.rows as u64);
     put_field(out, 8, 4, sketch.cols as u64);
     put_field(out, 12, 4, params.t as u64);
-    put_field(out, 16, 4, params.c as u64);
+    put_field(out, 16, 4, u64::from(params.c));
     put_field(out, 20, 4, kind(clock));
 }
 
@@ -102,6 +102,7 @@ pub fn wrong_form(payload: &[u8]) -> bool
     requires { length payload.now ≡ 504 }
     ensures { result ≡ wrong_form payload.now }
 {
+    // One test behind another: as one condition, each `||` of which joins two ways before the next, the proof did not close.
     if field(payload, 0, 4) != 1 {
         return true;
     }
@@ -112,10 +113,7 @@ pub fn wrong_form(payload: &[u8]) -> bool
     if !bytes::zeros(&payload[56..504]) {
         return true;
     }
-    if kind != 0 {
-        return false;
-    }
-    field(payload, 32, 8) != NO_EPOCH
+    kind == 0 && field(payload, 32, 8) != NO_EPOCH
 }
 
 fn clock_in(payload: &[u8]) -> SubWindowClock
@@ -142,6 +140,7 @@ pub fn sketch_in(payload: &[u8]) -> MicroCm
     requires { length payload.now ≡ 504 }
     ensures { result ≡ sketch_in payload.now }
 {
+    // `as`: four bytes fit, so that `try_from` would ask for an answer to an error that cannot come.
     let rows = field(payload, 4, 4) as usize;
     let cols = field(payload, 8, 4) as usize;
     let t = field(payload, 12, 4) as usize;
@@ -157,18 +156,18 @@ pub fn sketch_in(payload: &[u8]) -> MicroCm
     }
 }
 
-// The header's answer: 18, then 1 to 5.
-pub fn header_in(payload: &[u8]) -> Header
+// The sketch that the header describes, if it is not refused: by 18, then by 1 to 5.
+pub fn header_in(payload: &[u8]) -> Result<MicroCm, Verdict>
     requires { length payload.now ≡ 504 }
     ensures { result ≡ header_in payload.now }
 {
     if wrong_form(payload) {
-        return Header::Refused(18);
+        return Err(Verdict::Refused(18));
     }
     let sketch = sketch_in(payload);
     let verdict = sketch_judging::judge::numbers(sketch);
     if !verdict.accepted() {
-        return Header::Refused(verdict.number());
+        return Err(verdict);
     }
-    Header::Sketch(sketch)
+    Ok(sketch)
 }

@@ -1,28 +1,24 @@
 -- The ways through the judges of a store's length, its blocks and its stored cells.
-use Prim.Native.Nat.{ℕ, ◌+◌, ◌-◌, ◌*◌, ◌/◌, ◌%◌, ◌^◌, ◌≤◌, ◌<◌}
+use Prim.Native.Nat.{ℕ, ◌+◌, ◌-◌, ◌*◌, ◌/◌, ◌^◌, ◌≤◌, ◌<◌}
 use mathlib.Core.Path.{◌≡◌, sym, ap, ◌∙◌}
 use mathlib.Core.Bool.{Bool, true, false, not, ◌&&◌}
 use mathlib.Core.List.{List}
 use lib.Dec.{leb, ltb}
-use lib.ListN.{length, drop, get_or}
+use lib.ListN.{length, get_or}
 use native.Mathlib.Omega.{arith}
-use native.Mathlib.Nat.{mul-le-mul, suc-mul}
-use borrow.Author.Tests.{eq-eqb, ne_eqb}
+use native.Mathlib.Nat.{mul-le-mul}
 use Rattle.laws.specs.Bytes.{number_of}
 use Rattle.laws.specs.Parts.{part}
 use Rattle.laws.proofs.PartLaws.{part_at, piece_room}
-use Rattle.refusal.specs.declared.Verdict.{Verdict}
-use Rattle.refusal.specs.declared.Verdict.TheVariants.{Accepted, Refused, Unsound}
+use Rattle.refusal.specs.declared.Verdict.TheVariants.{Accepted, Unsound}
 use Rattle.cell.specs.Cell.{pixels_of, zoom_at, shutter_at, depth_of, zoom_of, shutter_of, max_zoom, sound_of}
 use Rattle.cell.proofs.SoundLaws.{sound_read}
 use Rattle.sketch.specs.declared.MicroCm.{MicroCm}
 use Rattle.sketch.specs.Sketch.{cells_of, grid_bytes, cell_of, all_cells}
 use Rattle.sketch.specs.Refusals.{refuse_unsound, numbers_verdict}
-use Rattle.sketch.proofs.JudgeLoops.{AllLeft, all_begin, all_found, all_on, all_end}
-use Rattle.store_bytes.specs.Fill.{all_zero}
-use Rattle.store_blocks.specs.Blocks.{blocks_pass, carried}
-use Rattle.store.specs.Store.{store_length}
-use Rattle.store.specs.Refusals.{refuse_blocks, grid_in, grid_verdict}
+use Rattle.sketch.proofs.JudgeLoops.{AllLeft, all_found, all_on}
+use Rattle.store_blocks.specs.Blocks.{carried}
+use Rattle.store.specs.Refusals.{grid_in}
 use Rattle.store.specs.Workers.{Sized, Stored}
 use Rattle.store_bytes.proofs.FillLaws.{part_take, part_part}
 use Rattle.store.proofs.SettingsLaws.{settings_good, cells_limit, grid_limit}
@@ -31,9 +27,6 @@ use Rattle.store.proofs.SettingsLaws.{settings_good, cells_limit, grid_limit}
 module _ (k : MicroCm) (good : numbers_verdict k ≡ Accepted) where
   pub cells_fit : k.rows * k.cols < 2 ^ 64
   cells_fit = omega (arith, cells_limit k good)
-
-  pub t_few : k.params.t ≤ 4096
-  t_few = (settings_good k good).fit.t_high
 
   module _ (d : ℕ) (ed : d ≡ depth_of k.params.t) where
     size_is : k.rows * k.cols * d ≡ grid_bytes k
@@ -51,13 +44,6 @@ module _ (k : MicroCm) (good : numbers_verdict k ≡ Accepted) where
         record { is = size_is; some = omega (arith, size_is); few = omega (arith, size_is, grid_limit k good) }
 
 -- A STORED CELL: the five bytes behind its pixels
-module _ (k : MicroCm) (good : numbers_verdict k ≡ Accepted) where
-  pub base_low : 2 ≤ k.params.c
-  base_low = (settings_good k good).fit.c_low
-
-  pub base_high : k.params.c ≤ 256
-  base_high = (settings_good k good).fit.c_high
-
 module _ (t at : ℕ) (l : List ℕ) where
   abbrev cell : List ℕ
   cell = part at (depth_of t) l
@@ -84,87 +70,28 @@ module _ (t at : ℕ) (l : List ℕ) where
       sound_read t c cell (get_or y 0 0) s r zoom (es ∙ ap (λ (l : List ℕ). number_of (part 1 4 l)) e ∙ shutter_held) er
 
 -- EVERY STORED CELL: those before `index` are sound
-pub record Judging (k : MicroCm) (store : List ℕ) (count depth index at : ℕ) : Type 0 where
-  pub left : AllLeft k (grid_in k store) count index
-  pub place : at ≡ index * depth
+module _ (k : MicroCm) (store : List ℕ) (count depth : ℕ) (stored : Stored k (length store)) (ed : depth ≡ depth_of k.params.t) (ec : count ≡ cells_of k) where
+  carried_room : grid_bytes k ≤ 504 * (length store / 512 - 1)
+  carried_room = omega (arith, stored.exact)
 
-module _ (k : MicroCm) (store : List ℕ) (count depth : ℕ) where
-  pub judging_begin : Judging k store count depth 0 0
-  judging_begin = record { left = all_begin k (grid_in k store) count; place = omega arith }
+  module _ (index : ℕ) (more : index < count) where
+    inside : index * depth + depth ≤ grid_bytes k
+    inside = piece_room depth count index (grid_bytes k) more (rw (ec, ed) (omega arith))
 
-  module _ (stored : Stored k (length store)) (ed : depth ≡ depth_of k.params.t) (ec : count ≡ cells_of k) where
-    carried_room : grid_bytes k ≤ 504 * (length store / 512 - 1)
-    carried_room = omega (arith, stored.exact)
+    pub judging_room : index * depth + depth_of k.params.t ≤ 504 * (length store / 512 - 1)
+    judging_room = omega (arith, ed, inside, carried_room)
 
-    module _ (index at : ℕ) (w : Judging k store count depth index at) where
-      pub judging_end : count ≤ index → Accepted ≡ refuse_unsound k (grid_in k store) (all_cells k) Accepted
-      judging_end h = all_end k (grid_in k store) count index w.left ec h
+    module _ (w : AllLeft k (grid_in k store) count index)
+        (r : Bool) (er : r ≡ sound_of k.params.t k.params.c (part (index * depth) (depth_of k.params.t) (carried store))) where
+      sound_is : r ≡ sound_of k.params.t k.params.c (cell_of k (grid_in k store) index)
+      sound_is =
+          let room : index * depth_of k.params.t + depth_of k.params.t ≤ grid_bytes k = rw ed at inside in
+          er
+          ∙ ap (sound_of k.params.t k.params.c) (rw ed
+          (sym (part_take (index * depth_of k.params.t) (depth_of k.params.t) (grid_bytes k) (carried store) room)))
 
-      module _ (more : index < count) where
-        inside : index * depth + depth ≤ grid_bytes k
-        inside = piece_room depth count index (grid_bytes k) more (rw (ec, ed) (omega arith))
+      pub judging_found : not r ≡ true → Unsound index ≡ refuse_unsound k (grid_in k store) (all_cells k) Accepted
+      judging_found n = all_found k (grid_in k store) count index w more r sound_is ec n
 
-        pub judging_room : at + depth_of k.params.t ≤ 504 * (length store / 512 - 1)
-        judging_room = omega (arith, ed, inside, carried_room, w.place)
-
-        pub next_index : index + 1 < 2 ^ 64
-        next_index = omega (arith, cells_limit k stored.good)
-
-        pub next_place : at + depth < 2 ^ 64
-        next_place = omega (arith, inside, w.place, grid_limit k stored.good)
-
-        module _ (r : Bool) (er : r ≡ sound_of k.params.t k.params.c (part at (depth_of k.params.t) (carried store))) where
-          sound_is : r ≡ sound_of k.params.t k.params.c (cell_of k (grid_in k store) index)
-          sound_is =
-              let e : at ≡ index * depth_of k.params.t = w.place ∙ rw ed in
-              let room : index * depth_of k.params.t + depth_of k.params.t ≤ grid_bytes k = rw ed at inside in
-              er
-              ∙ ap (sound_of k.params.t k.params.c) (rw e
-              (sym (part_take (index * depth_of k.params.t) (depth_of k.params.t) (grid_bytes k) (carried store) room)))
-
-          pub judging_found : not r ≡ true → Unsound index ≡ refuse_unsound k (grid_in k store) (all_cells k) Accepted
-          judging_found n = all_found k (grid_in k store) count index w.left more r sound_is ec n
-
-          pub judging_on : not r ≡ false → Judging k store count depth (index + 1) (at + depth)
-          judging_on n = record {
-            left = all_on k (grid_in k store) count index w.left more r sound_is n;
-            place = rw w.place (omega (arith, suc-mul index depth));
-          }
-
--- THE BLOCKS, 16 and 17
-module _ (store : List ℕ) where
-  pub store_empty : length store ≡ 0 → Refused 16 ≡ refuse_blocks store Accepted
-  store_empty e = rw (eq-eqb _ _ e)
-
-  module _ (some : length store ≡ 0 → ⊥) where
-    pub store_cut : (length store % 512 ≡ 0 → ⊥) → Refused 16 ≡ refuse_blocks store Accepted
-    store_cut m = rw (ne_eqb _ _ some, ne_eqb _ _ m)
-
-    module _ (m : length store % 512 ≡ 0) (pass : Bool) (ep : pass ≡ blocks_pass 0 (length store / 512) store) where
-      pub store_whole : pass ≡ true → Accepted ≡ refuse_blocks store Accepted
-      store_whole h = rw (ne_eqb _ _ some, eq-eqb _ _ m, ← ep, h)
-
-      pub store_damaged : pass ≡ false → Refused 17 ≡ refuse_blocks store Accepted
-      store_damaged h = rw (ne_eqb _ _ some, eq-eqb _ _ m, ← ep, h)
-
--- BEHIND THE HEADER: 16, 18, 6, 14
-module _ (k : MicroCm) (g store : List ℕ) (size : ℕ) (sized : Sized k size) (n : ℕ) (en : n ≡ 512 * (1 + (size + 503) / 504)) where
-  exact_is : length store ≡ n → length store ≡ store_length k
-  exact_is e = e ∙ en ∙ rw sized.is
-
-  pub length_refused : (length store ≡ n → ⊥) → Refused 16 ≡ grid_verdict k g store
-  length_refused h = rw (ne_eqb (length store) (store_length k) (λ e. h (e ∙ sym (en ∙ rw sized.is))))
-
-  module _ (e : length store ≡ n) (clear : Bool) (ec : clear ≡ all_zero (drop size (carried store))) where
-    cleared : all_zero (drop (grid_bytes k) (carried store)) ≡ clear
-    cleared = sym (ec ∙ rw sized.is)
-
-    pub fill_refused : not clear ≡ true → Refused 18 ≡ grid_verdict k g store
-    fill_refused h = rw (eq-eqb _ _ (exact_is e), cleared, h)
-
-    module _ (c : not clear ≡ false) where
-      pub room_refused : (length g ≡ size → ⊥) → Refused 6 ≡ grid_verdict k g store
-      room_refused h = rw (eq-eqb _ _ (exact_is e), cleared, c, ne_eqb (length g) (grid_bytes k) (λ q. h (q ∙ sym sized.is)))
-
-      pub cells_decide : length g ≡ size → (v : Verdict) → v ≡ refuse_unsound k (grid_in k store) (all_cells k) Accepted → v ≡ grid_verdict k g store
-      cells_decide q v ev = ev ∙ rw (eq-eqb _ _ (exact_is e), cleared, c, eq-eqb _ _ (q ∙ sized.is))
+      pub judging_on : not r ≡ false → AllLeft k (grid_in k store) count (index + 1)
+      judging_on n = all_on k (grid_in k store) count index w more r sound_is n

@@ -51,14 +51,10 @@ pub fn cells(sketch: MicroCm, store: &[u8]) -> Verdict
     let params = sketch.params;
     let depth = cell_layout::fields::depth(params.t);
     let count = sketch.rows * sketch.cols;
-    let mut index: usize = 0;
-    let mut at: usize = 0;
-    while index < count {
-        if !cell_sound(sketch, store, at) {
+    for index in 0..count {
+        if !cell_sound(sketch, store, index * depth) {
             return Verdict::Unsound(index);
         }
-        index += 1;
-        at += depth;
     }
     Verdict::Accepted
 }
@@ -67,10 +63,7 @@ pub fn cells(sketch: MicroCm, store: &[u8]) -> Verdict
 pub fn whole(store: &[u8]) -> Verdict
     ensures { result ≡ refuse_blocks store.now Accepted }
 {
-    if store.len() == 0 {
-        return Verdict::Refused(16);
-    }
-    if store.len() % 512 != 0 {
+    if store.is_empty() || store.len() % 512 != 0 {
         return Verdict::Refused(16);
     }
     if chain::all_pass(store) {

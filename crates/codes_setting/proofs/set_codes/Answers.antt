@@ -1,16 +1,13 @@
 -- `set_codes`: a list that was let pass has room, and both copies are made. Assumes nothing.
-use Rattle.codes_setting.proofs.SetLaws.{set_refused, columns_room, limits_room, set_done}
+use Rattle.codes_setting.proofs.SetLaws.{set_refused, columns_room, set_done}
 use borrow.Author.Rules.{rules}
 use Rattle.codes_setting.proofs.set_codes.Goals as goal
 
 pub returns-then-not-accepted : goal.returns-then-not-accepted
 returns-then-not-accepted c = search (set_refused, rules)
 
-pub keep_columns-requires : goal.keep_columns-requires
-keep_columns-requires c = search (columns_room, rules)
-
-pub keep_limits-requires : goal.keep_limits-requires
-keep_limits-requires c = search (limits_room, rules)
+pub slice_bounds-copy_from_slice-end : goal.slice_bounds-copy_from_slice-end
+slice_bounds-copy_from_slice-end c = search (columns_room, rules)
 
 pub returns : goal.returns
 returns c = search (set_done, rules)

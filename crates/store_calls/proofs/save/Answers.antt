@@ -1,5 +1,5 @@
 -- `store_calls::save` meets its contract. Each way out is what the definition gives there; all is judged before `write`.
-use Rattle.store_calls.proofs.SaveWork.{save_refused, save_ready, save_unsound, save_good, save_length, save_exact, save_room, save_done}
+use Rattle.store_calls.proofs.SaveWork.{save_refused, save_ready, save_unsound, save_length, save_done}
 use borrow.Author.Rules.{rules}
 use Rattle.store_calls.proofs.save.Goals as goal
 
@@ -12,14 +12,8 @@ all_cells-cells-requires c = search (save_ready, rules)
 pub returns-then-not-accepted-2 : goal.returns-then-not-accepted-2
 returns-then-not-accepted-2 c = search (save_unsound, rules)
 
-pub grid_bytes-size-requires : goal.grid_bytes-size-requires
-grid_bytes-size-requires c = search (save_good, rules)
-
 pub returns-then-store-store_bytes : goal.returns-then-store-store_bytes
 returns-then-store-store_bytes c = search (save_length, rules)
-
-pub write-requires : goal.write-requires
-write-requires c = (search (save_exact, rules), search (save_room, rules))
 
 pub returns : goal.returns
 returns c = search (save_done, rules)

@@ -1,28 +1,12 @@
 -- `asking`: each way out is the cause that holds first. Assumes nothing.
-use Rattle.codes_asking.proofs.JudgeLaws.{ask_shut, ask_ready, held_below, ask_rows, ask_foreign, ask_many}
-use Rattle.codes_asking.proofs.JudgeLaws.{ask_short, ask_cells, ask_unsound, ask_let_pass}
+use Rattle.codes_asking.proofs.JudgeLaws.{ask_ready, held_below, ask_rows, ask_unsound, ask_let_pass}
 use borrow.Author.Rules.{rules}
 use mathlib.Core.Path.{ap}
 use mathlib.Core.Bool.{not}
 use Rattle.codes_asking.proofs.judge.asking.Goals as goal
 
-pub returns-then-not-accepted : goal.returns-then-not-accepted
-returns-then-not-accepted c = search (ask_shut, rules)
-
 pub kept_fit-requires : goal.kept_fit-requires
 kept_fit-requires c = search (ask_rows, rules)
-
-pub returns-then-not-kept_fit : goal.returns-then-not-kept_fit
-returns-then-not-kept_fit c = search (ask_foreign, rules)
-
-pub returns-then-count-gt64 : goal.returns-then-count-gt64
-returns-then-count-gt64 c = search (ask_many, rules)
-
-pub overflow_mul-cells : goal.overflow_mul-cells
-overflow_mul-cells c = record { fits = search (ask_cells, rules) }
-
-pub returns-then-room-count : goal.returns-then-room-count
-returns-then-room-count c = search (ask_short, rules)
 
 pub least_bad-bad-requires : goal.least_bad-bad-requires
 least_bad-bad-requires c = record {

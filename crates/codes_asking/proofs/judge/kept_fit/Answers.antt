@@ -1,5 +1,5 @@
 -- `kept_fit`: each way out is one part of the test. Assumes nothing.
-use Rattle.codes_asking.proofs.JudgeLaws.{fit_none, fit_rows, size_fits, size_front, fit_columns}
+use Rattle.codes_asking.proofs.JudgeLaws.{fit_none, fit_rows, fit_columns}
 use borrow.Author.Rules.{rules}
 use Rattle.codes_asking.proofs.judge.kept_fit.Goals as goal
 
@@ -8,12 +8,6 @@ returns-then-watch-eq0 c = search (fit_none, rules)
 
 pub returns-then-watch-sketch : goal.returns-then-watch-sketch
 returns-then-watch-sketch c = search (fit_rows, rules)
-
-pub overflow_mul-size : goal.overflow_mul-size
-overflow_mul-size c = record { fits = search (size_fits, rules) }
-
-pub slice_bounds-all_below-end : goal.slice_bounds-all_below-end
-slice_bounds-all_below-end c = search (size_front, rules)
 
 pub returns : goal.returns
 returns c = search (fit_columns, rules)

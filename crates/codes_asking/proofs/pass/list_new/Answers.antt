@@ -1,4 +1,4 @@
-use Rattle.codes_asking.proofs.PassLaws.{passing_begin, passing_askable, passing_on, passing_end}
+use Rattle.codes_asking.proofs.PassLaws.{passing_begin, passing_askable, passing_on}
 use borrow.Author.Rules.{rules}
 use Rattle.codes_asking.proofs.pass.list_new.Goals as goal
 
@@ -10,6 +10,3 @@ code_over-requires c = search (passing_askable, rules)
 
 pub loop-code-preserved : goal.loop-code-preserved
 loop-code-preserved c = search (passing_on, rules)
-
-pub returns : goal.returns
-returns c = search (passing_end, rules)

@@ -1,11 +1,6 @@
 -- `list_new`: the codes before this one are listed. Assumes nothing.
-use Prim.Native.Nat.{◌-◌}
 use Rattle.codes_asking.proofs.PassLaws.{Passing}
 use Rattle.codes_asking.proofs.pass.list_new.Given as goal
 
 abbrev pub invariant-loop-code : goal.invariant-loop-code
-invariant-loop-code l =
-    Passing l.sketch l.columns l.limits l.grid l.before l.initial.list l.count l.list l.listed l.reached l.code
-
-abbrev pub decreases-loop-code : goal.decreases-loop-code
-decreases-loop-code l = l.count - l.code
+invariant-loop-code l = Passing l.sketch l.columns l.limits l.grid l.before l.initial.list l.list l.listed l.reached l.code

@@ -6,5 +6,5 @@ use Rattle.codes_setting.proofs.judge.codes_fit.Goals as goal
 pub returns-then-even : goal.returns-then-even
 returns-then-even c = search (fit_below, rules)
 
-pub returns : goal.returns
-returns c = search (fit_uneven, rules)
+pub returns-else-even : goal.returns-else-even
+returns-else-even c = search (fit_uneven, rules)

@@ -4,7 +4,7 @@ use borrow.Author.Rules.{rules}
 use Rattle.store_blocks.proofs.block.passes.Goals as goal
 
 pub returns-then-number : goal.returns-then-number
-returns-then-number c = search (number_differs, rules)
+returns-then-number c = search (number_same, rules)
 
-pub returns : goal.returns
-returns c = search (number_same, rules)
+pub returns-else-number : goal.returns-else-number
+returns-else-number c = search (number_differs, rules)

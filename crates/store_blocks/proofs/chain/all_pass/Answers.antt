@@ -1,21 +1,17 @@
-use Rattle.store_blocks.proofs.ChainLoops.{passing_begin, passing_on, passing_not, passing_end, passing_room, passing_part}
-use borrow.Author.Rules.{rules}
+-- `blocks::chain::all_pass` meets its contract. The chain gives the blocks in a row, each beside its number.
+use Prim.Native.Nat.{ℕ, ◌/◌}
+use mathlib.Core.Path.{◌∙◌}
+use mathlib.Core.List.{List}
+use lib.ListN.{length}
+use Rattle.std.proofs.Common.{rules}
+use Rattle.std.proofs.lemmas.Iterator.Consumers.{YieldsList-from_enumerate}
+use Rattle.std.proofs.lemmas.Iterator.Search.{all_from_yields_List}
+use Rattle.store_blocks.specs.Blocks.{block_passes}
+use Rattle.store_blocks.proofs.ChunkLaws.{chunked, each_passes}
 use Rattle.store_blocks.proofs.chain.all_pass.Goals as goal
 
-pub loop-left-init : goal.loop-left-init
-loop-left-init c = search (passing_begin, rules)
-
-pub slice_bounds-passes-end : goal.slice_bounds-passes-end
-slice_bounds-passes-end c = search (passing_room, rules)
-
-pub passes-requires : goal.passes-requires
-passes-requires c = search (passing_part, rules)
-
-pub returns-then-not-passes : goal.returns-then-not-passes
-returns-then-not-passes c = search (passing_not, rules)
-
-pub loop-left-preserved : goal.loop-left-preserved
-loop-left-preserved c = search (passing_on, rules)
-
 pub returns : goal.returns
-returns c = search (passing_end, rules)
+returns c =
+    all_from_yields_List (λ (p : ℕ × List ℕ). block_passes p.0 p.1) _ _ _ c.all.ensures.ran
+    (YieldsList-from_enumerate (chunked c.args.store.now (cc) (cc)) (cc)) (λ x b q k. search rules)
+    ∙ each_passes 0 (length c.args.store.now / 512) c.args.store.now

@@ -1,6 +1,6 @@
 -- `blocks::chain::copy_out` meets its contract. So far every byte is the one that the blocks carry there (`Writing`), and what one
 -- block carries stands together; the measure is what is left of the room.
-use Rattle.store_bytes.proofs.ByteLoops.{Writing}
+use Rattle.store_blocks.proofs.ChainLoops.{Writing}
 use Rattle.laws.specs.Parts.{part}
 use Rattle.store_blocks.specs.Blocks.{carried}
 use Prim.Native.Nat.{◌-◌}

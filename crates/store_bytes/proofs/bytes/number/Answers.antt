@@ -1,18 +1,15 @@
-use Rattle.store_bytes.proofs.ByteLoops.{reading_begin, reading_on, reading_end, reading_few, raised_fits, read_fits}
+-- `store_bytes::bytes::number` meets its contract. Zeros behind the bytes add nothing to the number.
+use Rattle.store_bytes.proofs.NumberLaws.{number_read}
+use Rattle.laws.proofs.ByteLaws.{number_below}
+use lib.ListN.{length}
 use borrow.Author.Rules.{rules}
+use native.Mathlib.Nat.{le_refl}
 use Rattle.store_bytes.proofs.bytes.number.Goals as goal
 
-pub loop-i-init : goal.loop-i-init
-loop-i-init c = search (reading_begin, rules)
+pub returns-clause-value : goal.returns-clause-value
+returns-clause-value c = search (number_read, rules)
 
-pub overflow_mul-n : goal.overflow_mul-n
-overflow_mul-n c = record { fits = search (raised_fits, rules) }
-
-pub overflow_add-n : goal.overflow_add-n
-overflow_add-n c = record { fits = search (read_fits, rules) }
-
-pub loop-i-preserved : goal.loop-i-preserved
-loop-i-preserved c = search (reading_on, rules)
-
-pub returns : goal.returns
-returns c = search (reading_end, reading_few, rules)
+pub returns-clause-upper_bound : goal.returns-clause-upper_bound
+returns-clause-upper_bound c =
+    rw (number_read c.fill.new.b c.args.b.now c.from_le_bytes.result c.requires c.fill.ensures c.from_le_bytes.ensures)
+    (number_below (length c.args.b.now) c.args.b.now (le_refl _) (λ i. (c.type_inv.b i).fits))

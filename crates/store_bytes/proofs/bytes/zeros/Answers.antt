@@ -1,15 +1,14 @@
-use Rattle.store_bytes.proofs.ByteLoops.{clear_begin, clear_on, clear_not, clear_end}
-use borrow.Author.Rules.{rules}
+-- `store_bytes::bytes::zeros` meets its contract. The chain asks each byte whether it is 0, and so does the definition.
+use Prim.Native.Nat.{ℕ}
+use mathlib.Core.Path.{◌∙◌}
+use lib.Dec.{eqb}
+use Rattle.std.proofs.Common.{rules}
+use Rattle.std.proofs.lemmas.Iterator.{YieldsList-from_slice}
+use Rattle.std.proofs.lemmas.Iterator.Search.{all_from_yields_List}
+use Rattle.store_bytes.proofs.FillLaws.{asked_each}
 use Rattle.store_bytes.proofs.bytes.zeros.Goals as goal
 
-pub loop-i-init : goal.loop-i-init
-loop-i-init c = search (clear_begin, rules)
-
-pub returns-then-b-i-ne0 : goal.returns-then-b-i-ne0
-returns-then-b-i-ne0 c = search (clear_not, rules)
-
-pub loop-i-preserved : goal.loop-i-preserved
-loop-i-preserved c = search (clear_on, rules)
-
 pub returns : goal.returns
-returns c = search (clear_end, rules)
+returns c =
+    all_from_yields_List (λ (x : ℕ). eqb x 0) _ _ _ c.all.ensures.ran (YieldsList-from_slice c.args.b.now cc) (λ x b q k. search rules)
+    ∙ asked_each c.args.b.now

@@ -12,8 +12,8 @@ returns-then-kind-gt1 c = search (kind_wrong, rules)
 pub returns-then-not-zeros : goal.returns-then-not-zeros
 returns-then-not-zeros c = search (rest_wrong, rules)
 
-pub returns-then-kind-ne0 : goal.returns-then-kind-ne0
-returns-then-kind-ne0 c = search (time_right, rules)
+pub returns-then-kind-eq0 : goal.returns-then-kind-eq0
+returns-then-kind-eq0 c = search (count_judged, rules)
 
-pub returns : goal.returns
-returns c = search (count_judged, rules)
+pub returns-else-kind-eq0 : goal.returns-else-kind-eq0
+returns-else-kind-eq0 c = search (time_right, rules)
