@@ -1,26 +1,17 @@
--- The stages of a merge in the form in which the code comes to them: the storing, the carry, the whole. Assumes nothing.
+-- The stages of a merge in the form in which the code comes to them: the carry and the whole. Assumes nothing.
 use Prim.Native.Nat.{ℕ, ◌+◌, ◌-◌, ◌*◌, ◌%◌, ◌^◌, ◌≤◌, ◌<◌, max}
-use mathlib.Core.Path.{◌≡◌, refl, sym, ap, ◌∙◌}
-use mathlib.Core.List.{List, ◌++◌}
-use lib.ListN.{length, take, drop, length-take}
-use native.Mathlib.Nat.{mod-eq_of_lt, mod-eq-sub-mod, div-eq_of_lt, div-eq_of_lt-le, div-lt_iff_lt-mul}
+use mathlib.Core.Path.{◌≡◌, sym, ap, ◌∙◌}
+use mathlib.Core.List.{List}
+use native.Mathlib.Nat.{mod-eq_of_lt, mod-eq-sub-mod, div-eq_of_lt-le, div-lt_iff_lt-mul}
 use native.Mathlib.Omega.{arith}
 use Rattle.laws.specs.Steps.{made}
 use Rattle.cell_merging.specs.declared.merge.Carry.{Carry}
 use Rattle.cell_merging_sums.specs.declared.worker.Summed.{Summed}
-use Rattle.cell.specs.Cell.{pixels_of, depth_of, slot_of, zoom_of, shutter_of, with_pixels, with_zoom, with_shutter}
+use Rattle.cell.specs.Cell.{slot_of, zoom_of, shutter_of, with_pixels, with_zoom, with_shutter}
 use Rattle.cell.specs.Merge.{merged_with, merge_of, sums_of}
 use Rattle.cell_merging_sums.specs.Workers.{settled_of}
 use Rattle.cell_merging.specs.Workers.{Pair, Carried}
 use Rattle.cell.proofs.MergeLaws.{target_fits, target_positive, carry_le}
-
--- STORE
-pub store_paired : (t p : ℕ) (b sums : List ℕ) → p ≡ pixels_of t → length b ≡ depth_of t → length sums ≡ pixels_of t → length sums ≡ length (take p b)
-store_paired t p b sums e d many = simp length-take (omega arith)
-
-pub stored_is : (t p z s : ℕ) (b sums l l' l'' : List ℕ) → p ≡ pixels_of t → l ≡ sums → l' ≡ with_zoom t z (l ++ drop p b) → l'' ≡ with_shutter t s l'
-    → l'' ≡ with_shutter t s (with_zoom t z (with_pixels t sums b))
-stored_is t p z s b sums l l' l'' e el el' el'' = rw (el'', el', el, e) refl
 
 -- THE CARRY: two shutters are below two units, of which they make one or none
 module _ (t c : ℕ) (b src : List ℕ) (p : Pair t c b src) (target : ℕ) (et : target ≡ max (zoom_of t b) (zoom_of t src)) where
@@ -48,9 +39,6 @@ module _ (t c : ℕ) (b src : List ℕ) (p : Pair t c b src) (target : ℕ) (et 
 
     pub shutters_fit : shutters < unit → shutters < 2 ^ 32
     shutters_fit h = omega (arith, unit_fits)
-
-    pub carry_none : shutters < unit → Carried (shutter_of t b + shutter_of t src) (c ^ target) (record { units = 0; rest = shutters })
-    carry_none h = rw (← es, ← eu) (record { units_are = sym (div-eq_of_lt h); rest_is = sym (mod-eq_of_lt h); few = omega arith })
 
 -- THE MERGE
 module _ (t c : ℕ) (b src : List ℕ) (target : ℕ) (et : target ≡ max (zoom_of t b) (zoom_of t src))

@@ -33,10 +33,7 @@ pub fn judge(dst: &[u8], src: &[u8], params: MicroParams, state: u64) -> Verdict
     if src.len() != fields::depth(t) {
         return Verdict::Refused(6);
     }
-    if !judge::sound(dst, t, c) {
-        return Verdict::Unsound(0);
-    }
-    if !judge::sound(src, t, c) {
+    if !judge::sound(dst, t, c) || !judge::sound(src, t, c) {
         return Verdict::Unsound(0);
     }
     Verdict::Accepted
@@ -132,12 +129,7 @@ fn larger_zoom(dst: &[u8], src: &[u8], t: usize) -> u8
     requires { (t ≤ 4096) × (length dst.now ≡ depth_of t) × (length src.now ≡ depth_of t) }
     ensures { result ≡ max (zoom_of t dst.now) (zoom_of t src.now) }
 {
-    let zoom = fields::zoom(dst, t);
-    let other = fields::zoom(src, t);
-    if zoom < other {
-        return other;
-    }
-    zoom
+    fields::zoom(dst, t).max(fields::zoom(src, t))
 }
 
 // Each shutter is below the unit of its own zoom and so of the target: both make one unit at most, and no division is
@@ -164,7 +156,7 @@ fn both_shutters(dst: &[u8], src: &[u8], t: usize) -> u64
     requires { (t ≤ 4096) × (length dst.now ≡ depth_of t) × (length src.now ≡ depth_of t) }
     ensures { result ≡ shutter_of t dst.now + shutter_of t src.now }
 {
-    (fields::shutter(dst, t) as u64) + (fields::shutter(src, t) as u64)
+    u64::from(fields::shutter(dst, t)) + u64::from(fields::shutter(src, t))
 }
 
 fn store(dst: &mut [u8], sums: &[u32], t: usize, zoom: u8, shutter: u32)
@@ -181,9 +173,7 @@ fn copy_each(pixels: &mut [u8], sums: &[u32])
     requires { (length sums.now ≡ length pixels.old) × (all_at_most 255 sums.now ≡ true) }
     ensures { pixels.new ≡ sums.now }
 {
-    let mut i: usize = 0;
-    while i < pixels.len() {
-        pixels[i] = sums[i] as u8;
-        i += 1;
+    for (i, pixel) in pixels.iter_mut().enumerate() {
+        *pixel = sums[i] as u8;
     }
 }

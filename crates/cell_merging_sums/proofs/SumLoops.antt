@@ -30,9 +30,6 @@ pub record Scaling (levels c v σ x s n left : ℕ) : Type 0 where
   pub done : scale_down c levels v σ ≡ delayed n (scale_down c left x s)
 
 module _ (levels c v σ : ℕ) where
-  pub scaling_begin : Scaling levels c v σ v σ 0 levels
-  scaling_begin = record { done = simp zero-add }
-
   module _ (x s n left : ℕ) (w : Scaling levels c v σ x s n left) where
     pub scaling_end : left ≤ 0 → record { value = x; state = s; draws = n } ≡ scale_down c levels v σ
     unfolding scale_down
@@ -40,18 +37,20 @@ module _ (levels c v σ : ℕ) where
         let e : left ≡ 0 = omega arith in
         sym (w.done ∙ rw e (simp add-zero))
 
-    module _ (more : 0 < left) (d : Divided) (e : d ≡ rounded_div x c s) where
+    module _ (more : 0 < left) (b : ℕ) (eb : b ≡ c) (d : Divided) (e : d ≡ rounded_div x b s) where
       scaling_turn : scale_down c levels v σ ≡ delayed n (delayed d.draws (scale_down c (left - 1) d.value d.state))
       unfolding scale_down
       scaling_turn =
           let q : left ≡ suc (left - 1) = omega arith in
-          (rw q at w.done) ∙ rw (← e) refl
+          (rw q at w.done) ∙ rw (e, eb) refl
 
       pub scaling_fits : levels < 2 ^ 8 → n + d.draws < 2 ^ 32
       scaling_fits few = omega (arith, ap (λ (r : Divided). r.draws) scaling_turn, scale_draws c levels v σ)
 
-      pub scaling_on : Scaling levels c v σ d.value d.state (n + d.draws) (left - 1)
-      scaling_on = record { done = scaling_turn ∙ simp add_assoc }
+      pub scaling_on : (left' : ℕ) → left' + 1 ≡ left → Scaling levels c v σ d.value d.state (n + d.draws) left'
+      scaling_on left' h =
+          let q : left - 1 ≡ left' = omega arith in
+          record { done = (rw q at scaling_turn) ∙ simp add_assoc }
 
 -- ADD A PAIR
 pub pair_is : (c down down' σ x y v w : ℕ) (a b : Divided) → v ≡ x → w ≡ y → a ≡ scale_down c down v σ → b ≡ scale_down c down' w a.state
@@ -172,13 +171,12 @@ pub record Halving (c : ℕ) (l₀ : List ℕ) (σ : ℕ) (l : List ℕ) (s n i 
   pub same : length l ≡ length l₀
 
 module _ (c : ℕ) (l₀ : List ℕ) (σ : ℕ) where
-  pub halving_begin : Halving c l₀ σ l₀ σ 0 0
-  halving_begin = record { done = simp zero-add; same = refl }
-
   module _ (l : List ℕ) (s n i : ℕ) (w : Halving c l₀ σ l s n i) where
-    pub halving_end : length l ≤ i → made l s n 0 ≡ divide_each c l₀ σ
+    pub halving_end : length l₀ ≤ i → made l s n 0 ≡ divide_each c l₀ σ
     unfolding divide_each
-    halving_end h = sym (w.done ∙ rw (drop_of_length-le l h, take_all i l h) (simp (append-nil, add-zero)))
+    halving_end h =
+        let q : length l ≤ i = omega (arith, w.same) in
+        sym (w.done ∙ rw (drop_of_length-le l q, take_all i l q) (simp (append-nil, add-zero)))
 
     module _ (d : Divided) (h : i < length l) (e : d ≡ rounded_div (get_or l i 0) c s) where
       halving_turn : divide_each c l₀ σ ≡ behind (take i l) n (front d (divide_each c (drop (suc i) l) d.state))
@@ -214,17 +212,18 @@ pub record Cutting (l₀ l : List ℕ) (n i : ℕ) : Type 0 where
   pub same : length l ≡ length l₀
 
 module _ (l₀ : List ℕ) where
-  pub cutting_begin : Cutting l₀ l₀ 0 0
-  cutting_begin = record { done = refl; off = simp zero-add; same = refl }
-
   module _ (l : List ℕ) (n i : ℕ) (w : Cutting l₀ l n i) where
-    pub cutting_end : length l ≤ i → l ≡ cut_each l₀
+    pub cutting_end : length l₀ ≤ i → l ≡ cut_each l₀
     unfolding cut_each
-    cutting_end h = sym (w.done ∙ rw (drop_of_length-le l h, take_all i l h) (append-nil l))
+    cutting_end h =
+        let q : length l ≤ i = omega (arith, w.same) in
+        sym (w.done ∙ rw (drop_of_length-le l q, take_all i l q) (append-nil l))
 
-    pub cutting_off : length l ≤ i → n ≡ cut_off l₀
+    pub cutting_off : length l₀ ≤ i → n ≡ cut_off l₀
     unfolding cut_off
-    cutting_off h = sym (w.off ∙ rw (drop_of_length-le l h) (add-zero n))
+    cutting_off h =
+        let q : length l ≤ i = omega (arith, w.same) in
+        sym (w.off ∙ rw (drop_of_length-le l q) (add-zero n))
 
     module _ (h : i < length l) (y : ℕ) (ey : y ≡ get_or l i 0 - 255) where
       cutting_turn : cut_off l₀ ≡ n + y + cut_off (drop (suc i) l)

@@ -1,5 +1,5 @@
 // Document 01, "Merge": the sums of two cells' pixels, and the zoom at which each fits a byte. Callers have judged both cells.
-ghost use Rattle.std.specs.Prelude.{◌≡◌, true, ◌-◌, ◌*◌, ◌^◌, ◌≤◌, ◌<◌, min, length};
+ghost use Rattle.std.specs.Prelude.{◌≡◌, true, ◌*◌, ◌^◌, ◌≤◌, ◌<◌, length};
 ghost use Rattle.rounding.specs.Draws.{rounded_div};
 ghost use Rattle.cell.specs.Cell.{pixels_of, zoom_of, max_zoom};
 ghost use Rattle.cell.specs.Insertion.{divide_each};
@@ -54,7 +54,7 @@ fn add_carry(sums: &mut [u32], slot: usize, carry: u32)
     requires { (slot < length sums.old) × (all_at_most 510 sums.old ≡ true) × (carry ≤ 1) }
     ensures { (sums.new ≡ with_carry slot carry sums.old) × (all_at_most 511 sums.new ≡ true) }
 {
-    sums[slot] = sums[slot] + carry;
+    sums[slot] += carry;
 }
 
 // Each cell's pixels lack the levels from its own zoom up to the target.
@@ -75,15 +75,13 @@ fn add_pixels(
     let down = target - fields::zoom(dst, t);
     let other = target - fields::zoom(src, t);
     let pixels = fields::pixels(t);
-    if down == 0 {
-        if other == 0 {
-            add_flat(sums, &dst[..pixels], &src[..pixels]);
-            return Drawn {
-                state,
-                draws: 0,
-                lost: 0,
-            };
-        }
+    if down == 0 && other == 0 {
+        add_flat(sums, &dst[..pixels], &src[..pixels]);
+        return Drawn {
+            state,
+            draws: 0,
+            lost: 0,
+        };
     }
     add_each(sums, &dst[..pixels], &src[..pixels], down, other, c, state)
 }
@@ -93,10 +91,8 @@ fn add_flat(sums: &mut [u32], dst: &[u8], src: &[u8])
     requires { (length src.now ≡ length dst.now) × (length sums.old ≡ length dst.now) }
     ensures { (sums.new ≡ flat_sums dst.now src.now) × (all_at_most 510 sums.new ≡ true) }
 {
-    let mut i: usize = 0;
-    while i < dst.len() {
-        sums[i] = fields::wide(dst[i]) + fields::wide(src[i]);
-        i += 1;
+    for (i, sum) in sums.iter_mut().enumerate() {
+        *sum = u32::from(dst[i]) + u32::from(src[i]);
     }
 }
 
@@ -115,13 +111,11 @@ fn add_each(
 {
     let mut after = state;
     let mut draws: u32 = 0;
-    let mut i: usize = 0;
-    while i < dst.len() {
+    for (i, sum) in sums.iter_mut().enumerate() {
         let pair = add_pair(dst[i], src[i], down, other, c, after);
-        sums[i] = pair.value as u32;
+        *sum = pair.value as u32;
         after = pair.state;
-        draws = draws + pair.draws;
-        i += 1;
+        draws += pair.draws;
     }
     Drawn {
         state: after,
@@ -135,8 +129,8 @@ fn add_pair(x: u8, y: u8, down: u8, other: u8, c: u32, state: u64) -> Divided
     ensures value { result ≡ add_pair c down other x y state }
     ensures value_bound { result.value ≤ 510 }
 {
-    let a = scale_down(fields::wide(x) as u64, down, c, state);
-    let b = scale_down(fields::wide(y) as u64, other, c, a.state);
+    let a = scale_down(u64::from(x), down, c, state);
+    let b = scale_down(u64::from(y), other, c, a.state);
     Divided {
         value: a.value + b.value,
         state: b.state,
@@ -152,13 +146,11 @@ fn scale_down(value: u64, levels: u8, c: u32, state: u64) -> Divided
     let mut x = value;
     let mut after = state;
     let mut draws: u32 = 0;
-    let mut left = levels;
-    while left > 0 {
-        let divided = worker::divide(x, c as u64, after);
+    for _ in 0..levels {
+        let divided = worker::divide(x, u64::from(c), after);
         x = divided.value;
         after = divided.state;
-        draws = draws + divided.draws;
-        left -= 1;
+        draws += divided.draws;
     }
     Divided {
         value: x,
@@ -167,51 +159,42 @@ fn scale_down(value: u64, levels: u8, c: u32, state: u64) -> Divided
     }
 }
 
-// Raises the zoom until every sum fits. One raise need not do: 511 halved may round up to 256.
+// Raises the zoom until every sum fits. One raise need not do: 511 halved may round up to 256. At max_zoom what does not
+// fit is cut.
 fn settle(sums: &mut [u32], zoom: u8, c: u32, state: u64) -> Summed
     requires { (2 ≤ c) × (c ≤ 256) × (zoom ≤ max_zoom c) × (length sums.old ≤ 4098) × (all_at_most 511 sums.old ≡ true) }
     ensures result_after { settled_of sums.new result ≡ settle_of c zoom sums.old state }
     ensures sums_after { (all_at_most 255 sums.new ≡ true) × (result.draws ≤ 31 * 4098) × (result.zoom ≤ max_zoom c) }
 {
     let top = power::max_zoom(c);
-    let mut target = zoom;
     let mut after = state;
     let mut draws: u32 = 0;
-    while !all_fit(&sums[..]) {
-        if top <= target {
-            let lost = cut_each(sums);
+    for target in zoom..top {
+        if all_fit(&sums[..]) {
             return Summed {
                 zoom: target,
                 state: after,
                 draws,
-                lost,
+                lost: 0,
             };
         }
-        target += 1;
         let divided = divide_each(sums, c, after);
         after = divided.state;
-        draws = draws + divided.draws;
+        draws += divided.draws;
     }
+    let lost = cut_each(sums);
     Summed {
-        zoom: target,
+        zoom: top,
         state: after,
         draws,
-        lost: 0,
+        lost,
     }
 }
 
 fn all_fit(sums: &[u32]) -> bool
     ensures { result ≡ all_at_most 255 sums.now }
 {
-    let mut i: usize = 0;
-    while i < sums.len() {
-        let sum = sums[i];
-        if 255 < sum {
-            return false;
-        }
-        i += 1;
-    }
-    true
+    sums.iter().all(|sum| *sum <= 255)
 }
 
 fn divide_each(sums: &mut [u32], c: u32, state: u64) -> Drawn
@@ -220,13 +203,11 @@ fn divide_each(sums: &mut [u32], c: u32, state: u64) -> Drawn
 {
     let mut after = state;
     let mut draws: u32 = 0;
-    let mut i: usize = 0;
-    while i < sums.len() {
-        let divided = divide_sum(sums[i], c, after);
-        sums[i] = divided.value as u32;
+    for sum in sums.iter_mut() {
+        let divided = divide_sum(*sum, c, after);
+        *sum = divided.value as u32;
         after = divided.state;
-        draws = draws + divided.draws;
-        i += 1;
+        draws += divided.draws;
     }
     Drawn {
         state: after,
@@ -240,7 +221,7 @@ fn divide_sum(sum: u32, c: u32, state: u64) -> Divided
     ensures value { result ≡ rounded_div sum c state }
     ensures value_bound { result.value < 2 ^ 32 }
 {
-    worker::divide(sum as u64, c as u64, state)
+    worker::divide(u64::from(sum), u64::from(c), state)
 }
 
 // Cuts all to 255, and adds up what stood above it.
@@ -249,30 +230,9 @@ fn cut_each(sums: &mut [u32]) -> u32
     ensures { (sums.new ≡ cut_each sums.old) × (result ≡ cut_off sums.old) }
 {
     let mut lost: u32 = 0;
-    let mut i: usize = 0;
-    while i < sums.len() {
-        lost = lost + above(sums[i]);
-        sums[i] = cut(sums[i]);
-        i += 1;
+    for sum in sums.iter_mut() {
+        lost += sum.saturating_sub(255);
+        *sum = (*sum).min(255);
     }
     lost
-}
-
-// The units of a sum that stand above 255.
-fn above(sum: u32) -> u32
-    ensures { result ≡ sum - 255 }
-{
-    if sum > 255 {
-        return sum - 255;
-    }
-    0
-}
-
-fn cut(sum: u32) -> u32
-    ensures { result ≡ min sum 255 }
-{
-    if sum > 255 {
-        return 255;
-    }
-    sum
 }

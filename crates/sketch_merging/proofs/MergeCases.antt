@@ -10,7 +10,6 @@ use Rattle.refusal.specs.declared.Verdict.TheVariants.{Accepted}
 use Rattle.refusal.specs.Refusals.{is_accepted}
 use Rattle.refusal.proofs.VerdictLaws.{refused_leaves, turned_back_lem, let_pass}
 use Rattle.clock.specs.Clock.{n_of}
-use Rattle.clock.specs.Workers.{GoodLength}
 use Rattle.sketch.specs.declared.MicroCm.{MicroCm}
 use Rattle.sketch.specs.declared.Passed.{Passed}
 use Rattle.sketch.specs.declared.SketchAnswer.{SketchAnswer}
@@ -33,9 +32,6 @@ module _ (k : MicroCm) (g : List ℕ) (k' : MicroCm) (g' : List ℕ) (v : Verdic
 
     pub merge_ready : Ready k (length g)
     merge_ready = accepted_ready k g k' g' (sym ev ∙ accepted)
-
-    pub merge_length : GoodLength k.clock
-    merge_length = merge_ready.timed
 
     pub merge_judged : Judged k g (all_cells k)
     merge_judged = accepted_judged k g k' g' (sym ev ∙ accepted)

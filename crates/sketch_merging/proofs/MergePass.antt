@@ -38,24 +38,12 @@ pair_light x h = omega arith
 
 module _ (t c n count : ℕ) (other g₀ : List ℕ) (σ₀ : ℕ) (ok : SoundCells t c count g₀) (ok' : SoundCells t c count other) (g : List ℕ) (σ drawn lost a i : ℕ)
     (w : Going (merge_piece t c n other) (depth_of t) 127038 4294967295 count g₀ σ₀ g σ drawn lost a i) (more : i < count) where
-  pub pass_room : (k : ℕ) → k ≤ 127038 → drawn + k < 2 ^ 64
-  pass_room k h = omega (arith, w.few, ok.few)
-
-  pub loss_room : (k : ℕ) → k < 2 ^ 32 → lost + k < 2 ^ 64
-  loss_room k h = omega (arith, w.light, ok.few)
-
-  pub index_on : i + 1 < 2 ^ 64
-  index_on = omega (arith, ok.few)
-
   module _ (d : ℕ) (ed : d ≡ depth_of t) where
     other_is : take (a + d - a) (drop a other) ≡ part (i * depth_of t) (depth_of t) other
     other_is = going_beside (merge_piece t c n other) (depth_of t) 127038 4294967295 count g₀ σ₀ g σ drawn lost a i w more d ed other
 
     other_long : i * depth_of t + depth_of t ≤ length other
     other_long = piece_room (depth_of t) count i (length other) more ok'.room
-
-    pub other_room : a + d ≤ length other
-    other_room = omega (arith, w.start, other_long)
 
     pub pair_is : Pair t c (take (a + d - a) (drop a g)) (take (a + d - a) (drop a other))
     pair_is = record {

@@ -11,16 +11,17 @@ use sketch::MicroCm;
 fn lower(first: Verdict, second: Verdict) -> Verdict
     ensures { result ≡ lower_of first second }
 {
-    if first.accepted() {
-        return second;
+    match (first.accepted(), second.accepted()) {
+        (true, _) => second,
+        (false, true) => first,
+        (false, false) => {
+            if first.number() <= second.number() {
+                first
+            } else {
+                second
+            }
+        }
     }
-    if second.accepted() {
-        return first;
-    }
-    if first.number() <= second.number() {
-        return first;
-    }
-    second
 }
 
 fn same_shape(sketch: MicroCm, other: MicroCm) -> bool
@@ -28,16 +29,10 @@ fn same_shape(sketch: MicroCm, other: MicroCm) -> bool
 {
     let params = sketch.params;
     let others = other.params;
-    if sketch.rows != other.rows {
-        return false;
-    }
-    if sketch.cols != other.cols {
-        return false;
-    }
-    if params.t != others.t {
-        return false;
-    }
-    params.c == others.c
+    sketch.rows == other.rows
+        && sketch.cols == other.cols
+        && params.t == others.t
+        && params.c == others.c
 }
 
 // 10 to 12.

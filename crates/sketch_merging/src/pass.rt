@@ -30,8 +30,8 @@ fn merge_cells(
     let mut draws: u64 = 0;
     let mut lost: u64 = 0;
     let mut start: usize = 0;
-    let mut index: usize = 0;
-    while index < count {
+    // Not `chunks_exact_mut`: of what was written through a chunk a proof knows nothing once the loop is over.
+    for _ in 0..count {
         let end = start + depth;
         let drawn = cell_merging::merge::merge_within(
             &mut grid[start..end],
@@ -44,10 +44,9 @@ fn merge_cells(
             after,
         );
         after = drawn.state;
-        draws = draws + drawn.draws as u64;
-        lost = lost + drawn.lost as u64;
+        draws += drawn.draws as u64;
+        lost += drawn.lost as u64;
         start = end;
-        index += 1;
     }
     Passed {
         state: after,

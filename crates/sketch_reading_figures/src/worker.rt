@@ -54,11 +54,8 @@ fn sum_back(sketch: MicroCm, grid: &[u8], key: &[u32], units: &[u64], n: u64, mo
     requires n_value { (n ≡ n_of sketch.clock) × (most < 4096) }
     ensures { (result ≡ exactly (sum_back sketch grid.now key.now most)) × (result.whole ≤ 4096 * (256 * (2 ^ 32 - 1))) }
 {
-    let last = worker::smaller(n, most);
     let mut sum = exact_of(worker::least_in(sketch, grid, key, units, n, n));
-    let mut back: u64 = 0;
-    while back < last {
-        back += 1;
+    for back in 1..=n.min(most) {
         sum = plus(sum, worker::least_in(sketch, grid, key, units, n, n - back));
     }
     sum

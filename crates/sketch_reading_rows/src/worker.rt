@@ -1,6 +1,6 @@
 // Document 01, "Figures": what the key's cells say of one sub-window, and the minimum of it across rows. Callers have
 // judged the key's cells.
-ghost use Rattle.std.specs.Prelude.{◌≡◌, ◌-◌, ◌*◌, ◌^◌, ◌≤◌, ◌<◌, min, length};
+ghost use Rattle.std.specs.Prelude.{◌≡◌, ◌-◌, ◌*◌, ◌^◌, ◌≤◌, ◌<◌, length};
 ghost use Rattle.cell.specs.Cell.{depth_of, shutter_of, unit_of};
 ghost use Rattle.clock.specs.Clock.{n_of};
 ghost use Rattle.sketch.specs.Figures.{items_in, row_items, least_in};
@@ -10,12 +10,6 @@ ghost use Rattle.sketch_reading_rows.specs.Workers.{Units};
 use sketch::MicroCm;
 use sketch_judging::grid;
 
-fn wide(x: u8) -> u64
-    ensures { (result ≡ x) × (result ≤ 255) }
-{
-    x as u64
-}
-
 // What a cell says of sub-window j, at the present n.
 fn items_in(cell: &[u8], t: usize, c: u32, unit: u64, n: u64, j: u64) -> u64
     requires t_bound { (t ≤ 4096) × (length cell.now ≡ depth_of t) }
@@ -23,9 +17,9 @@ fn items_in(cell: &[u8], t: usize, c: u32, unit: u64, n: u64, j: u64) -> u64
     ensures { (result ≡ items_in t c n cell.now j) × (result ≤ 256 * (2 ^ 32 - 1)) }
 {
     let slot = cell_layout::fields::slot(t, j);
-    let items = unit * wide(cell[slot]);
+    let items = unit * u64::from(cell[slot]);
     if j == n {
-        return (cell_layout::fields::shutter(cell, t) as u64) + items;
+        return u64::from(cell_layout::fields::shutter(cell, t)) + items;
     }
     items
 }
@@ -68,18 +62,9 @@ pub fn fill_units(sketch: MicroCm, grid: &[u8], key: &[u32], units: &mut [u64])
     requires { Readable sketch key.now grid.now × (length units.old ≡ 128) }
     ensures { Units sketch grid.now key.now sketch.rows units.new }
 {
-    let rows = sketch.rows;
-    let mut row: usize = 0;
-    while row < rows {
-        units[row] = row_unit(sketch, grid, key, row);
-        row += 1;
+    for (row, unit) in units[..sketch.rows].iter_mut().enumerate() {
+        *unit = row_unit(sketch, grid, key, row);
     }
-}
-
-pub fn smaller(a: u64, b: u64) -> u64
-    ensures { result ≡ min a b }
-{
-    if a < b { a } else { b }
 }
 
 // The minimum across rows, of sub-window j.
@@ -89,12 +74,9 @@ pub fn least_in(sketch: MicroCm, grid: &[u8], key: &[u32], units: &[u64], n: u64
     requires n_value { n ≡ n_of sketch.clock }
     ensures { (result ≡ least_in sketch grid.now key.now j) × (result ≤ 256 * (2 ^ 32 - 1)) }
 {
-    let rows = sketch.rows;
     let mut least = row_items(sketch, grid, key, 0, units[0], n, j);
-    let mut row: usize = 1;
-    while row < rows {
-        least = smaller(least, row_items(sketch, grid, key, row, units[row], n, j));
-        row += 1;
+    for row in 1..sketch.rows {
+        least = least.min(row_items(sketch, grid, key, row, units[row], n, j));
     }
     least
 }

@@ -1,13 +1,10 @@
 -- `merge`: judged first, then every cell. Assumes nothing.
-use Rattle.sketch_merging.proofs.MergeCases.{merge_refused, merge_ready, merge_length, merge_judged, merge_other, merge_done}
+use Rattle.sketch_merging.proofs.MergeCases.{merge_refused, merge_ready, merge_judged, merge_other, merge_done}
 use borrow.Author.Rules.{rules}
 use Rattle.sketch_merging.proofs.merge.Goals as goal
 
 pub returns-then-not-accepted : goal.returns-then-not-accepted
 returns-then-not-accepted c = search (merge_refused, rules)
-
-pub sub_window-n-requires : goal.sub_window-n-requires
-sub_window-n-requires c = search (merge_length, rules)
 
 pub merge_each-passed-requires-clause-ready : goal.merge_each-passed-requires-clause-ready
 merge_each-passed-requires-clause-ready c = (search (merge_ready, rules), search (merge_judged, rules))

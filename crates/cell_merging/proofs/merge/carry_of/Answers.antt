@@ -1,5 +1,5 @@
 -- `carry_of`: two shutters are below two units, so one unit is all that they can make. Assumes nothing.
-use Rattle.cell_merging.proofs.MergeCases.{unit_fits, rest_fits, carry_one, shutters_fit, carry_none}
+use Rattle.cell_merging.proofs.MergeCases.{unit_fits, rest_fits, carry_one, shutters_fit}
 use borrow.Author.Rules.{rules}
 use Rattle.cell_merging.proofs.merge.carry_of.Goals as goal
 
@@ -14,6 +14,3 @@ returns-then-unit-shutters c = search (carry_one, rules)
 
 pub overflow_cast-result-2 : goal.overflow_cast-result-2
 overflow_cast-result-2 c = record { fits = search (shutters_fit, rules) }
-
-pub returns : goal.returns
-returns c = search (carry_none, rules)

@@ -5,14 +5,8 @@ use Rattle.cell_merging.proofs.MergeCases.{merged_is}
 use borrow.Author.Rules.{rules}
 use Rattle.cell_merging.proofs.merge.merge_by.Goals as goal
 
-pub sum_up-summed-requires-clause-fit : goal.sum_up-summed-requires-clause-fit
-sum_up-summed-requires-clause-fit c = (search rules, search rules, search rules)
-
 pub sum_up-summed-requires-clause-dst_bound : goal.sum_up-summed-requires-clause-dst_bound
 sum_up-summed-requires-clause-dst_bound c = (search (target_high, rules), search (target_high', rules), search (target_low, rules), search (slot_read, rules), search rules)
-
-pub store-requires : goal.store-requires
-store-requires c = (search rules, search rules, search rules, search rules)
 
 pub returns : goal.returns
 returns c = merged_is _ _ _ _ _ c.larger_zoom-target.ensures _ c.carry_of-carry.ensures _ _ c.requires.pair.1 _ _ _ _

@@ -1,11 +1,6 @@
 -- `add_each`: up to i the sums, then the pairs that are left. Assumes nothing.
 use Rattle.cell_merging_sums.proofs.SumLoops.{Adding}
-use Prim.Native.Nat.{◌-◌, ◌≤◌}
-use lib.ListN.{length}
 use Rattle.cell_merging_sums.proofs.worker.add_each.Given as goal
 
 abbrev pub invariant-loop-i : goal.invariant-loop-i
-invariant-loop-i l = Adding l.c l.down l.other l.dst l.src l.state l.sums l.after l.draws l.i × (l.i ≤ length l.dst)
-
-abbrev pub decreases-loop-i : goal.decreases-loop-i
-decreases-loop-i l = length l.dst - l.i
+invariant-loop-i l = Adding l.c l.down l.other l.dst l.src l.state l.sums l.after l.draws l.i

@@ -1,11 +1,6 @@
 -- `add_flat`: up to i the sums, then the pixels that are left. Assumes nothing.
 use Rattle.cell_merging_sums.proofs.SumLoops.{Flat}
-use Prim.Native.Nat.{◌-◌, ◌≤◌}
-use lib.ListN.{length}
 use Rattle.cell_merging_sums.proofs.worker.add_flat.Given as goal
 
 abbrev pub invariant-loop-i : goal.invariant-loop-i
-invariant-loop-i l = Flat l.dst l.src l.sums l.i × (l.i ≤ length l.dst)
-
-abbrev pub decreases-loop-i : goal.decreases-loop-i
-decreases-loop-i l = length l.dst - l.i
+invariant-loop-i l = Flat l.dst l.src l.sums l.i

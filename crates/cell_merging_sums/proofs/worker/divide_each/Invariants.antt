@@ -1,11 +1,6 @@
--- `divide_each`: up to i the quotients, from i on the sums as they were. Assumes nothing.
+-- `divide_each`: up to here the quotients, from here on the sums as they were. Assumes nothing.
 use Rattle.cell_merging_sums.proofs.SumLoops.{Halving}
-use Prim.Native.Nat.{◌-◌}
-use lib.ListN.{length}
 use Rattle.cell_merging_sums.proofs.worker.divide_each.Given as goal
 
-abbrev pub invariant-loop-i : goal.invariant-loop-i
-invariant-loop-i l = Halving l.c l.initial.sums l.state l.sums l.after l.draws l.i
-
-abbrev pub decreases-loop-i : goal.decreases-loop-i
-decreases-loop-i l = length l.sums - l.i
+abbrev pub invariant-loop-sum : goal.invariant-loop-sum
+invariant-loop-sum l = Halving l.c l.initial.sums l.state l.sums l.after l.draws l.sum-index

@@ -1,15 +1,12 @@
-use Rattle.cell_merging_sums.proofs.SumLoops.{scaling_begin, scaling_fits, scaling_on, scaling_end}
-use borrow.Author.Rules.{rules}
+use Rattle.cell_merging_sums.proofs.SumLoops.{scaling_fits, scaling_on, scaling_end}
+use native.Mathlib.Omega.{arith}
 use Rattle.cell_merging_sums.proofs.worker.scale_down.Goals as goal
 
-pub loop-left-init : goal.loop-left-init
-loop-left-init c = search (scaling_begin, rules)
-
 pub overflow_add-draws : goal.overflow_add-draws
-overflow_add-draws c = record { fits = search (scaling_fits, rules) }
+overflow_add-draws c = record { fits = scaling_fits _ _ _ _ _ _ _ _ c.loop.invariant (omega arith) _ c.from.ensures _ c.divide-divided.ensures (omega arith) }
 
-pub loop-left-preserved : goal.loop-left-preserved
-loop-left-preserved c = search (scaling_on, rules)
+pub loop-preserved : goal.loop-preserved
+loop-preserved c = scaling_on _ _ _ _ _ _ _ _ c.loop.invariant (omega arith) _ c.from.ensures _ c.divide-divided.ensures _ (omega arith)
 
 pub returns : goal.returns
-returns c = search (scaling_end, rules)
+returns c = scaling_end _ _ _ _ _ _ _ _ c.loop.invariant (omega arith)

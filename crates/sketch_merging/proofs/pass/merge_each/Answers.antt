@@ -1,12 +1,8 @@
 -- `merge_each`: the pieces are the cells of both sketches, each of which was judged. Assumes nothing.
 use Rattle.sketch.proofs.JudgedLaws.{sound_cells}
-use Rattle.sketch.proofs.AddressLaws.{cells_fit}
 use Rattle.sketch_merging.proofs.MergePass.{merged_all}
 use borrow.Author.Rules.{rules}
 use Rattle.sketch_merging.proofs.pass.merge_each.Goals as goal
-
-pub overflow_mul-sketch : goal.overflow_mul-sketch
-overflow_mul-sketch c = record { fits = search (cells_fit, rules) }
 
 pub merge_cells-requires-clause-sound_cells : goal.merge_cells-requires-clause-sound_cells
 merge_cells-requires-clause-sound_cells c = (search (sound_cells, rules), search rules)
