@@ -1,7 +1,8 @@
 // Whole files: one is replaced so that no failure leaves a part of it, and one is read to its end. A name is UTF-8 text; any
 // other is no file's.
-ghost use Rattle.std.specs.Prelude.{◌≤◌, length};
+ghost use Rattle.std.specs.Prelude.{◌<◌, ◌≤◌, IfOk, length};
 
+pub use crate::old::files::{Taken, read};
 use std::fs::{File, OpenFile, OpenOptions};
 use std::io::{Error, ErrorKind, Read, Write};
 use std::rt::Files;
@@ -12,10 +13,7 @@ const NAMES: u32 = 1_000_000;
 
 // The name of a file, as the library takes it.
 fn path(name: &[u8]) -> io::Result<&str> {
-    match str::from_utf8(name) {
-        Ok(path) => Ok(path),
-        Err(_) => Err(Error::from(ErrorKind::InvalidInput)),
-    }
+    str::from_utf8(name).map_err(|_| Error::from(ErrorKind::InvalidInput))
 }
 
 // Whether the name is free or a file's. What cannot be synced is a device or a pipe, and no file to replace.
@@ -40,8 +38,7 @@ fn named_anew<R: Files + Alloc>(rt: &R, name: &str) -> io::Result<String<R::A>> 
 }
 
 // All bytes into the file and on to its device. It is closed at the end.
-fn write_out<F: Write + OpenFile + Drop>(file: F, bytes: &[u8]) -> io::Result<()> {
-    let mut file = file;
+fn write_out<F: Write + OpenFile + Drop>(mut file: F, bytes: &[u8]) -> io::Result<()> {
     file.write_all(bytes)?;
     file.sync_all()
 }
@@ -83,14 +80,17 @@ pub fn write<R: Files + Alloc>(rt: &R, name: &[u8], bytes: &[u8]) -> io::Result<
     Err(Error::from(ErrorKind::PermissionDenied))
 }
 
-// What was read of a file, and whether it ended there.
+// Why no whole file was read.
 #[derive(Clone, Copy)]
-pub struct Taken {
-    pub count: usize,
-    pub whole: bool,
+pub enum Unread {
+    // It fills the room, and so may be longer.
+    TooLong,
+    // It could not be opened, or not be read to its end.
+    Failed,
 }
 
 // Reads until the room is full, the file ends or a read fails, and gives how many bytes now stand at the start of the room.
+// The library's `read_exact` would not say how many.
 pub fn read_full<F: Read>(file: &mut F, room: &mut [u8]) -> usize
     ensures { result ≤ length room.new }
 {
@@ -110,27 +110,26 @@ pub fn read_full<F: Read>(file: &mut F, room: &mut [u8]) -> usize
 // A read that fails, as of a directory, stops `read_full` as the end does; then one more read does not give 0.
 fn at_end<F: Read>(file: &mut F) -> bool {
     let mut more = [0u8; 1];
-    match file.read(&mut more) {
-        Ok(got) => got == 0,
-        Err(_) => false,
-    }
+    matches!(file.read(&mut more), Ok(0))
 }
 
-pub fn read<R: Files>(rt: &R, name: &[u8], room: &mut [u8]) -> Taken {
-    let Ok(name) = path(name) else {
-        return Taken {
-            count: 0,
-            whole: false,
-        };
+fn opened<R: Files>(rt: &R, name: &[u8]) -> io::Result<R::File> {
+    File::open(rt, path(name)?)
+}
+
+// The bytes of a file, at the front of a room that is longer.
+pub fn read_whole<'a, R: Files>(rt: &R, name: &[u8], room: &'a mut [u8]) -> Result<&'a [u8], Unread>
+    ensures { IfOk result (λ bytes. length bytes.now < length room.old) }
+{
+    let Ok(mut file) = opened(rt, name) else {
+        return Err(Unread::Failed);
     };
-    let Ok(file) = File::open(rt, name) else {
-        return Taken {
-            count: 0,
-            whole: false,
-        };
-    };
-    let mut file = file;
     let count = read_full(&mut file, room);
-    let whole = at_end(&mut file);
-    Taken { count, whole }
+    if count == room.len() {
+        return Err(Unread::TooLong);
+    }
+    if !at_end(&mut file) {
+        return Err(Unread::Failed);
+    }
+    Ok(&room[..count])
 }

@@ -1,7 +1,10 @@
 // An f64 by its bits, in and out, and to three places for people.
-ghost use Rattle.std.specs.Prelude.{◌≡◌, from_bits, to_bits};
+ghost use Rattle.std.specs.Prelude.{◌≡◌, ◌<◌, ◌^◌, from_bits, to_bits};
 ghost use Rattle.std.specs.Float.Ieee.{nan_bits};
 ghost use Rattle.std.specs.Float.{binary64};
+
+use std::fmt;
+use std::fmt::Display;
 
 // The bits by which every NaN goes here.
 const NAN: u64 = 0x7FF8_0000_0000_0000;
@@ -17,14 +20,29 @@ pub struct Places {
     pub thousandths: u64,
 }
 
+impl Places {
+    fn of(thousandths: u64) -> Places {
+        Places {
+            whole: thousandths / 1000,
+            thousandths: thousandths % 1000,
+        }
+    }
+}
+
+impl Display for Places {
+    fn fmt<W: fmt::Write>(&self, f: &mut fmt::Formatter<W>) -> fmt::Result {
+        write!(f, "{}.{:03}", self.whole, self.thousandths)
+    }
+}
+
 // The bits of an f64. Which NaN a call gives is open, so all go by the same bits; of the rest no two do.
 pub fn bits(x: f64) -> u64
     ensures { result ≡ to_bits binary64 x }
 {
-    if x != x {
+    if x.is_nan() {
         return NAN;
     }
-    f64::to_bits(x)
+    x.to_bits()
 }
 
 // The f64 of any bits. Which NaN it is is open in Rattle, so a NaN's bits give one that is computed.
@@ -41,48 +59,20 @@ pub fn of_bits(bits: u64) -> f64
 fn is_nan(bits: u64) -> bool
     ensures { result ≡ nan_bits binary64 bits }
 {
-    if bits % SIGN / HIDDEN != 2047 {
-        return false;
-    }
-    bits % HIDDEN != 0
+    bits % SIGN / HIDDEN == 2047 && bits % HIDDEN != 0
 }
 
-fn carried(whole: u64, thousandths: u64) -> Places {
-    if thousandths < 1000 {
-        return Places { whole, thousandths };
-    }
-    Places {
-        whole: std::num::wrapping_add_u64(whole, 1),
-        thousandths: 0,
-    }
-}
-
-// 1000 = 1024 - 16 - 8; no bit is lost, as the number is below 2^53.
-fn thousandfold(n: u64) -> u64 {
-    std::num::wrapping_sub_u64(std::num::wrapping_sub_u64(n << 10, n << 4), n << 3)
-}
-
-// digits / 2^shift, to the nearest thousandth.
-fn divided(digits: u64, shift: u64) -> Places {
-    if shift < 1 {
-        return Places {
-            whole: digits,
-            thousandths: 0,
-        };
-    }
+// The library's `{:.3}` would round a half to the even thousandth, and this rounds it up.
+//
+// digits / 2^shift, to the nearest thousandth. No bit is lost, as the digits are below 2^53.
+fn divided(digits: u64, shift: u64) -> Places
+    requires { digits < 2 ^ 53 }
+{
     if shift > 63 {
-        return Places {
-            whole: 0,
-            thousandths: 0,
-        };
+        return Places::of(0);
     }
-    let whole = digits >> shift;
-    let rest = std::num::wrapping_sub_u64(digits, whole << shift);
-    let half = 1u64 << (shift - 1);
-    carried(
-        whole,
-        std::num::wrapping_add_u64(thousandfold(rest), half) >> shift,
-    )
+    let half = (1 << shift) >> 1;
+    Places::of((digits * 1000 + half) >> shift)
 }
 
 // A figure is never negative and below 2^54, so its last digit is worth 2 at most.
@@ -90,17 +80,11 @@ pub fn in_places(x: f64) -> Places {
     let pattern = bits(x);
     let exponent = pattern % SIGN / HIDDEN;
     if exponent < 1 {
-        return Places {
-            whole: 0,
-            thousandths: 0,
-        };
+        return Places::of(0);
     }
     let digits = pattern % HIDDEN + HIDDEN;
     if exponent > 1075 {
-        return Places {
-            whole: digits << 1,
-            thousandths: 0,
-        };
+        return Places::of(digits * 2000);
     }
     divided(digits, 1075 - exponent)
 }

@@ -10,5 +10,7 @@ pub mod limits;
 pub mod lines;
 pub mod lists;
 pub mod numbers;
+mod old;
 pub mod print;
+pub mod slices;
 pub mod words;

@@ -1,62 +1,59 @@
 // Draws one after another.
-use crate::{course, verdicts};
-use program_text::print;
+use crate::course;
+use crate::course::Course;
+use crate::verdicts::Told;
 use rounding::{DrawAnswer, Rounding};
-use std::io;
+use std::fmt::Display;
+use std::{fmt, io};
+
+#[derive(Clone, Copy)]
+struct Drawn(DrawAnswer);
+
+impl Display for Drawn {
+    fn fmt<W: fmt::Write>(&self, f: &mut fmt::Formatter<W>) -> fmt::Result {
+        let answer = self.0;
+        let told = Told(answer.verdict);
+        let value = answer.value;
+        let state = answer.rounding.state;
+        write!(f, "{told}, value {value}, state {state}")
+    }
+}
 
 // A run so far: the random state, and the digest of all values.
-#[derive(Clone, Copy)]
-struct Progress {
+#[derive(Drop)]
+struct Draws {
     rounding: Rounding,
     digest: u64,
 }
 
-fn print_answer(rt: &impl Print, answer: DrawAnswer) -> io::Result<()> {
-    let verdict = answer.verdict;
-    let rounding = answer.rounding;
-    verdicts::tell(rt, verdict)?;
-    print::number(rt, b", value ", answer.value)?;
-    print::number(rt, b", state ", rounding.state)
+impl Display for Draws {
+    fn fmt<W: fmt::Write>(&self, f: &mut fmt::Formatter<W>) -> fmt::Result {
+        write!(f, ", digest {}", self.digest)
+    }
+}
+
+impl Course for Draws {
+    type Answer = Drawn;
+
+    fn turn(&mut self) -> Drawn {
+        let answer = self.rounding.next_u64();
+        self.rounding = answer.rounding;
+        self.digest = course::digest(self.digest, answer.value);
+        Drawn(answer)
+    }
 }
 
 // One draw from any state, 0 too.
 pub fn single(rt: &impl Print, state: u64) -> io::Result<()> {
-    let start = Rounding { state };
-    print::number(rt, b"draw from state ", state)?;
-    print_answer(rt, start.next_u64())?;
-    print::text(rt, b"\n")
-}
-
-fn turn(rt: &impl Print, before: Progress, count: u64) -> io::Result<Progress> {
-    let start = before.rounding;
-    let answer = start.next_u64();
-    let rounding = answer.rounding;
-    let digest = course::digest(before.digest, answer.value);
-    if course::is_mark(count) {
-        print::number(rt, b"  draw ", count)?;
-        print_answer(rt, answer)?;
-        print::number(rt, b", digest ", digest)?;
-        print::text(rt, b"\n")?;
-    }
-    Ok(Progress { rounding, digest })
-}
-
-fn turns(rt: &impl Print, start: Progress) -> io::Result<()> {
-    let mut progress = start;
-    for count in 1..=course::TURNS {
-        progress = turn(rt, progress, count)?;
-    }
-    Ok(())
+    let drawn = Drawn(Rounding { state }.next_u64());
+    println!(rt; "draw from state {state}{drawn}")
 }
 
 pub fn run(rt: &impl Print, seed: u64) -> io::Result<()> {
-    print::number(rt, b"draws from seed ", seed)?;
-    print::text(rt, b"\n")?;
-    turns(
-        rt,
-        Progress {
-            rounding: Rounding::new(seed),
-            digest: 0,
-        },
-    )
+    println!(rt; "draws from seed {seed}")?;
+    let mut draws = Draws {
+        rounding: Rounding::new(seed),
+        digest: 0,
+    };
+    course::run(rt, "draw", &mut draws)
 }

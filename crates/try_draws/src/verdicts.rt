@@ -1,12 +1,16 @@
 // What a call says of itself, behind the words that name it.
-use program_text::print;
 use refusal::Verdict;
-use std::io;
+use std::fmt;
+use std::fmt::Display;
 
-pub fn tell(rt: &impl Print, verdict: Verdict) -> io::Result<()> {
-    let refusal = verdict.number();
-    if refusal == 0 {
-        return print::text(rt, b": accepted");
+#[derive(Clone, Copy)]
+pub struct Told(pub Verdict);
+
+impl Display for Told {
+    fn fmt<W: fmt::Write>(&self, f: &mut fmt::Formatter<W>) -> fmt::Result {
+        if self.0.accepted() {
+            return f.write_str(": accepted");
+        }
+        write!(f, ": refused by {}", self.0.number())
     }
-    print::number(rt, b": refused by ", refusal as u64)
 }

@@ -1,25 +1,37 @@
 // What our calls give, as the numbers that stand in the records.
 use program_text::{fields, floats};
-use refusal::Verdict;
+use std::fmt;
+use std::fmt::Display;
 
 // What comes of a kind that the format does not have: no call is refused by this number.
-pub const NO_SUCH_KIND: u64 = 255;
+pub const NO_SUCH_KIND: u8 = 255;
 
-// Document 01's number, and 0 for a call that was accepted.
-pub fn refusal(verdict: Verdict) -> u64 {
-    verdict.number() as u64
+// Of calls that make up one record, the first refusal: document 01's number, and 0 if all were accepted.
+pub fn first(refusals: &[u8]) -> u8 {
+    refusals
+        .iter()
+        .copied()
+        .find(|number| *number != 0)
+        .unwrap_or_default()
 }
 
-// Of two calls that make up one record, the first refusal.
-pub fn first(a: u64, b: u64) -> u64 {
-    if a == 0 { b } else { a }
+// The bits of an f64. Every NaN goes by the same.
+#[derive(Clone, Copy, PartialEq, Eq)]
+pub struct Bits(u64);
+
+impl Bits {
+    pub fn of(x: f64) -> Bits {
+        Bits(floats::bits(x))
+    }
+
+    pub fn at(record: &[u8], at: usize) -> Bits {
+        Bits::of(floats::of_bits(fields::u64_at(record, at)))
+    }
 }
 
-pub fn flag(test: bool) -> u64 {
-    if test { 1 } else { 0 }
-}
-
-// The bits of an f64 in a record, as `floats::bits` gives those of ours: every NaN goes by the same.
-pub fn bits_at(record: &[u8], at: usize) -> u64 {
-    floats::bits(floats::of_bits(fields::u64_at(record, at)))
+impl Display for Bits {
+    fn fmt<W: fmt::Write>(&self, f: &mut fmt::Formatter<W>) -> fmt::Result {
+        let bits = self.0;
+        write!(f, "{bits:016x}")
+    }
 }

@@ -1,84 +1,127 @@
 // The file `draws`: the calls of the crate rounding.
-use crate::tally::Tally;
-use crate::{answer, report};
-use program_text::{fields, files, numbers, print};
+use crate::replay::{Records, Stop, Tally};
+use crate::{answer, replay, report};
+use program_text::fields;
 use rounding::{DivisionAnswer, Rounding};
-use std::io;
+use std::fmt::Display;
 use std::io::Read;
+use std::{fmt, io};
+
+#[derive(Clone, Copy)]
+enum Kind {
+    NextU64,
+    UnbiasedDivU64 { v: u64, d: u64 },
+    // The format keeps these numbers below 2^32.
+    UnbiasedDiv { v: u64, d: u64 },
+    New,
+    NextInARow { draws: u32 },
+    Unknown,
+}
 
 #[derive(Clone, Copy)]
 struct Call {
-    kind: u64,
+    kind: Kind,
     state: u64,
-    v: u64,
-    d: u64,
-    // How many to make, in a run.
-    draws: u64,
 }
 
-#[derive(Clone, Copy)]
+#[derive(Clone, Copy, PartialEq, Eq)]
 struct Answer {
-    refused: u64,
+    refused: u8,
     value: u64,
     state: u64,
-    draws: u64,
+    draws: u32,
 }
 
-// The next record: read, called, compared.
-pub fn turn(rt: &impl Print, file: &mut impl Read, tally: Tally) -> io::Result<Tally> {
-    let mut header = [0u8; 80];
-    let got = files::read_full(file, &mut header[..48]);
-    if got < 48 {
-        return tally.ended(rt, got);
-    }
-    let call = call_of(&header);
-    let expected = expected_of(&header);
-    let came = perform(call);
-    if same(expected, came) {
-        return Ok(tally.right());
-    }
-    if tally.wrong == 0 {
-        report::call(rt, b"draws", tally.calls)?;
-        show_call(rt, call)?;
-        show_answers(rt, expected, came)?;
-    }
-    Ok(tally.failed())
+fn low_half(n: u64) -> u32 {
+    (n & 0xFFFF_FFFF) as u32
 }
 
-fn call_of(header: &[u8; 80]) -> Call {
-    Call {
-        kind: fields::u8_at(header, 0),
-        state: fields::u64_at(header, 8),
-        v: fields::u64_at(header, 24),
-        d: fields::u64_at(header, 32),
-        draws: fields::u32_at(header, 4),
+impl Call {
+    fn of(header: &[u8; 48]) -> Call {
+        let v = fields::u64_at(header, 24);
+        let d = fields::u64_at(header, 32);
+        let kind = match fields::u8_at(header, 0) {
+            1 => Kind::NextU64,
+            2 => Kind::UnbiasedDivU64 { v, d },
+            3 => Kind::UnbiasedDiv { v, d },
+            4 => Kind::New,
+            5 => Kind::NextInARow {
+                draws: fields::u32_at(header, 4) as u32,
+            },
+            _ => Kind::Unknown,
+        };
+        Call {
+            kind,
+            state: fields::u64_at(header, 8),
+        }
     }
-}
 
-fn expected_of(header: &[u8; 80]) -> Answer {
-    Answer {
-        refused: 0,
-        value: fields::u64_at(header, 40),
-        state: fields::u64_at(header, 16),
-        draws: fields::u32_at(header, 4),
-    }
-}
-
-// The format keeps the numbers of kind 3 below 2^32.
-fn perform(call: Call) -> Answer {
-    let kind = call.kind;
-    let rounding = Rounding { state: call.state };
-    match kind {
-        1 => run(rounding, 1),
-        2 => divided(rounding.unbiased_div_u64(call.v, call.d)),
-        3 => divided(rounding.unbiased_div(numbers::low_half(call.v), numbers::low_half(call.d))),
-        4 => nothing_drawn(0, Rounding::new(call.state)),
-        5 => run(rounding, call.draws),
-        _ => nothing_drawn(answer::NO_SUCH_KIND, rounding),
+    fn perform(self) -> Answer {
+        let rounding = Rounding { state: self.state };
+        match self.kind {
+            Kind::NextU64 => drawn(rounding, 1),
+            Kind::UnbiasedDivU64 { v, d } => Answer::from(rounding.unbiased_div_u64(v, d)),
+            Kind::UnbiasedDiv { v, d } => {
+                Answer::from(rounding.unbiased_div(low_half(v), low_half(d)))
+            }
+            Kind::New => undrawn(0, Rounding::new(self.state)),
+            Kind::NextInARow { draws } => drawn(rounding, draws),
+            Kind::Unknown => undrawn(answer::NO_SUCH_KIND, rounding),
+        }
     }
 }
 
-fn nothing_drawn(refused: u64, rounding: Rounding) -> Answer {
+impl Display for Call {
+    fn fmt<W: fmt::Write>(&self, f: &mut fmt::Formatter<W>) -> fmt::Result {
+        let state = self.state;
+        match self.kind {
+            Kind::NextU64 => write!(f, "next_u64, state or seed {state}"),
+            Kind::UnbiasedDivU64 { v, d } => {
+                write!(f, "unbiased_div_u64, state or seed {state}, v {v}, d {d}")
+            }
+            Kind::UnbiasedDiv { v, d } => {
+                write!(f, "unbiased_div, state or seed {state}, v {v}, d {d}")
+            }
+            Kind::New => write!(f, "Rounding::new, state or seed {state}"),
+            Kind::NextInARow { draws } => {
+                write!(f, "next_u64 in a row, state or seed {state}, draws {draws}")
+            }
+            Kind::Unknown => write!(f, "no such kind, state or seed {state}"),
+        }
+    }
+}
+
+impl Answer {
+    fn of(header: &[u8; 48]) -> Answer {
+        Answer {
+            refused: 0,
+            value: fields::u64_at(header, 40),
+            state: fields::u64_at(header, 16),
+            draws: fields::u32_at(header, 4) as u32,
+        }
+    }
+
+    fn show_beside(self, rt: &impl Print, came: Answer) -> io::Result<()> {
+        report::compare(rt, "refused by", self.refused, came.refused)?;
+        report::compare(rt, "value", self.value, came.value)?;
+        report::compare(rt, "state", self.state, came.state)?;
+        report::compare(rt, "draws", self.draws, came.draws)?;
+        println!(rt)
+    }
+}
+
+impl From<DivisionAnswer> for Answer {
+    fn from(answer: DivisionAnswer) -> Answer {
+        Answer {
+            refused: answer.verdict.number(),
+            value: answer.value,
+            state: answer.rounding.state,
+            draws: answer.draws,
+        }
+    }
+}
+
+fn undrawn(refused: u8, rounding: Rounding) -> Answer {
     Answer {
         refused,
         value: 0,
@@ -87,67 +130,38 @@ fn nothing_drawn(refused: u64, rounding: Rounding) -> Answer {
     }
 }
 
-fn run(rounding: Rounding, draws: u64) -> Answer {
-    let mut answer = nothing_drawn(0, rounding);
+// So many draws in a row: what the last of them gives.
+fn drawn(rounding: Rounding, draws: u32) -> Answer {
+    let mut last = undrawn(0, rounding);
     for _ in 0..draws {
-        answer = drawn(answer);
+        let answer = Rounding { state: last.state }.next_u64();
+        last.refused = answer.verdict.number();
+        last.value = answer.value;
+        last.state = answer.rounding.state;
     }
-    answer
+    last.draws = draws;
+    last
 }
 
-fn drawn(before: Answer) -> Answer {
-    let rounding = Rounding {
-        state: before.state,
-    };
-    let answer = rounding.next_u64();
-    let verdict = answer.verdict;
-    Answer {
-        refused: answer::refusal(verdict),
-        value: answer.value,
-        state: answer.rounding.state,
-        draws: std::num::wrapping_add_u64(before.draws, 1),
-    }
-}
+#[derive(Drop)]
+pub struct Draws;
 
-fn divided(answer: DivisionAnswer) -> Answer {
-    let verdict = answer.verdict;
-    Answer {
-        refused: answer::refusal(verdict),
-        value: answer.value,
-        state: answer.rounding.state,
-        draws: answer.draws as u64,
-    }
-}
-
-fn same(a: Answer, b: Answer) -> bool {
-    a.refused == b.refused && a.value == b.value && a.state == b.state && a.draws == b.draws
-}
-
-fn show_call(rt: &impl Print, call: Call) -> io::Result<()> {
-    let kind = call.kind;
-    match kind {
-        1 => print::text(rt, b"next_u64"),
-        2 => print::text(rt, b"unbiased_div_u64"),
-        3 => print::text(rt, b"unbiased_div"),
-        4 => print::text(rt, b"Rounding::new"),
-        5 => print::text(rt, b"next_u64 in a row"),
-        _ => print::text(rt, b"no such kind"),
-    }?;
-    report::with(rt, b"state or seed", call.state)?;
-    match kind {
-        2 | 3 => {
-            report::with(rt, b"v", call.v)?;
-            report::with(rt, b"d", call.d)
+impl Records for Draws {
+    fn turn<P: Print, F: Read>(
+        &mut self,
+        rt: &P,
+        file: &mut F,
+        tally: Tally,
+    ) -> Result<bool, Stop> {
+        let header = replay::header(file)?;
+        let call = Call::of(&header);
+        let expected = Answer::of(&header);
+        let came = call.perform();
+        let right = came == expected;
+        if !right && tally.wrong == 0 {
+            report::call(rt, "draws", tally, call)?;
+            expected.show_beside(rt, came)?;
         }
-        5 => report::with(rt, b"draws", call.draws),
-        _ => Ok(()),
+        Ok(right)
     }
-}
-
-fn show_answers(rt: &impl Print, expected: Answer, came: Answer) -> io::Result<()> {
-    report::compare(rt, b"refused by", expected.refused, came.refused)?;
-    report::compare(rt, b"value", expected.value, came.value)?;
-    report::compare(rt, b"state", expected.state, came.state)?;
-    report::compare(rt, b"draws", expected.draws, came.draws)?;
-    print::text(rt, b"\n")
 }

@@ -6,56 +6,46 @@ mod answer;
 mod cells;
 mod clocks;
 mod draws;
+mod replay;
 mod report;
 mod sketches;
-mod tally;
 
+use cells::Cells;
+use clocks::Clocks;
+use draws::Draws;
 use program_text::print;
+use replay::{Records, Tally};
+use sketches::Sketches;
 use std::io::Read;
 use std::rt::Files;
 use std::{fs, io};
-use tally::Tally;
-
-#[derive(Clone, Copy)]
-enum File {
-    Draws,
-    Cells,
-    Clock,
-}
 
 fn main(rt: HostRuntime) -> io::Result<()> {
-    replay_file(&rt, "draws", File::Draws)?;
-    replay_file(&rt, "cells", File::Cells)?;
-    replay_file(&rt, "clock", File::Clock)?;
+    replay_named(&rt, "draws", &mut Draws)?;
+    replay_named(&rt, "cells", &mut Cells::new())?;
+    replay_named(&rt, "clock", &mut Clocks)?;
     replay_sketches(&rt, "sketches")
 }
 
-fn replay_file<R: Files + Print + Eprint + Alloc>(
+fn replay_named<R: Files + Print + Eprint + Alloc>(
     rt: &R,
     name: &str,
-    kind: File,
+    records: &mut impl Records,
 ) -> io::Result<()> {
     let Some(file) = opened(rt, name)? else {
         return Ok(());
     };
-    let mut file = file;
-    // Three cells of the largest depth, and one.
-    let mut given = [0u8; 12312];
-    let mut cell = [0u8; 4104];
-    let tally = replay(rt, &mut file, kind, &mut given, &mut cell)?;
-    close(rt, file, name, tally)
+    replay_file(rt, name, file, records)
 }
 
 fn replay_sketches<R: Files + Print + Eprint + Alloc>(rt: &R, name: &str) -> io::Result<()> {
     let Some(file) = opened(rt, name)? else {
         return Ok(());
     };
-    let mut file = file;
     // As large as the format lets the grids of the two slots be.
     let mut first = vec![in rt.alloc(); 0u8; 524288]?;
     let mut second = [0u8; 16416];
-    let tally = sketches::replay(rt, &mut file, &mut first, &mut second)?;
-    close(rt, file, name, tally)
+    replay_file(rt, name, file, &mut Sketches::new(&mut first, &mut second))
 }
 
 // Of a file that cannot be opened only that is told.
@@ -69,43 +59,12 @@ fn opened<R: Files + Eprint + Alloc>(rt: &R, name: &str) -> io::Result<Option<R:
     }
 }
 
-fn close<F: Drop>(rt: &impl Print, file: F, name: &str, tally: Tally) -> io::Result<()> {
-    drop(file);
-    print::text(rt, name.as_bytes())?;
-    print::number(rt, b": ", tally.calls)?;
-    print::number(rt, b" calls, ", tally.wrong)?;
-    print::text(rt, b" wrong\n")
-}
-
-fn replay(
+fn replay_file<F: Read + Drop>(
     rt: &impl Print,
-    file: &mut impl Read,
-    kind: File,
-    given: &mut [u8],
-    cell: &mut [u8],
-) -> io::Result<Tally> {
-    let mut tally = Tally::new();
-    // Nothing says that a file ends, and a loop has to: so it counts to what no file reaches.
-    for _ in 0..u64::MAX {
-        if !tally.more {
-            break;
-        }
-        tally = turn(rt, file, kind, given, cell, tally)?;
-    }
-    Ok(tally)
-}
-
-fn turn(
-    rt: &impl Print,
-    file: &mut impl Read,
-    kind: File,
-    given: &mut [u8],
-    cell: &mut [u8],
-    tally: Tally,
-) -> io::Result<Tally> {
-    match kind {
-        File::Draws => draws::turn(rt, file, tally),
-        File::Cells => cells::turn(rt, file, given, cell, tally),
-        File::Clock => clocks::turn(rt, file, tally),
-    }
+    name: &str,
+    mut file: F,
+    records: &mut impl Records,
+) -> io::Result<()> {
+    let Tally { calls, wrong } = replay::all(rt, &mut file, records)?;
+    println!(rt; "{name}: {calls} calls, {wrong} wrong")
 }

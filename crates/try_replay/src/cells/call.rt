@@ -1,177 +1,254 @@
 // The calls of the crate cell, and their answers, as they stand in the headers of the file `cells`.
+use crate::answer::Bits;
 use crate::{answer, report};
-use cell::{CellAnswer, MicroLayout, MicroParams};
-use program_text::{fields, floats, print};
+use cell::{CellAnswer, MicroParams};
+use program_text::fields;
 use rounding::Rounding;
-use std::io;
+use std::fmt::Display;
+use std::{fmt, io};
+
+#[derive(Clone, Copy)]
+enum Kind {
+    Insert,
+    EnterSubWindow,
+    MergeCells,
+    Layout,
+    Fields,
+    Unknown(u8),
+}
 
 #[derive(Clone, Copy)]
 pub struct Call {
-    kind: u64,
+    kind: Kind,
     params: MicroParams,
     n: u64,
     crossed: u64,
     state: u64,
 }
 
-// What a call gives beside the bytes. The values are draws and state; for a layout depth, pixels and max_zoom; for the
-// fields of a cell zoom, shutter and scaled_pixel.
-#[derive(Clone, Copy)]
+// What a call gives beside the bytes.
+#[derive(Clone, Copy, PartialEq, Eq)]
+enum Values {
+    Changed {
+        draws: u32,
+        state: u64,
+    },
+    Layout {
+        depth: u64,
+        pixels: u64,
+        max_zoom: u64,
+    },
+    Fields {
+        zoom: u64,
+        shutter: u64,
+        scaled_pixel: Bits,
+    },
+}
+
+#[derive(Clone, Copy, PartialEq, Eq)]
 pub struct Answer {
-    refused: u64,
-    first: u64,
-    second: u64,
-    third: u64,
+    refused: u8,
+    values: Values,
 }
 
-pub fn call_of(header: &[u8; 80]) -> Call {
-    let params = MicroParams {
-        t: fields::u16_at(header, 2) as usize,
-        c: fields::u16_at(header, 4) as u32,
-    };
-    Call {
-        kind: fields::u8_at(header, 0),
-        params,
-        n: fields::u64_at(header, 16),
-        crossed: fields::u64_at(header, 24),
-        state: fields::u64_at(header, 32),
+impl From<u8> for Kind {
+    fn from(kind: u8) -> Kind {
+        match kind {
+            1 => Kind::Insert,
+            2 => Kind::EnterSubWindow,
+            3 => Kind::MergeCells,
+            4 => Kind::Layout,
+            5 => Kind::Fields,
+            _ => Kind::Unknown(kind),
+        }
     }
 }
 
-pub fn expected_of(header: &[u8; 80]) -> Answer {
-    let kind = fields::u8_at(header, 0);
-    match kind {
-        4 => Answer {
-            refused: 0,
-            first: fields::u16_at(header, 6),
-            second: fields::u64_at(header, 16),
-            third: fields::u64_at(header, 24),
-        },
-        5 => Answer {
-            refused: 0,
-            first: fields::u64_at(header, 32),
-            second: fields::u64_at(header, 40),
-            third: answer::bits_at(header, 24),
-        },
-        _ => Answer {
-            refused: 0,
-            first: fields::u32_at(header, 8),
-            second: fields::u64_at(header, 40),
-            third: 0,
-        },
+impl Display for Kind {
+    fn fmt<W: fmt::Write>(&self, f: &mut fmt::Formatter<W>) -> fmt::Result {
+        f.write_str(match self {
+            Kind::Insert => "insert",
+            Kind::EnterSubWindow => "enter_sub_window",
+            Kind::MergeCells => "merge_cells",
+            Kind::Layout => "MicroLayout::new and max_zoom",
+            Kind::Fields => "zoom, shutter and scaled_pixel",
+            Kind::Unknown(_) => "no such kind",
+        })
     }
 }
 
-pub fn perform(call: Call, cell: &mut [u8], src: &[u8]) -> Answer {
-    let kind = call.kind;
-    let params = call.params;
-    let rounding = Rounding { state: call.state };
-    match kind {
-        1 => changed(cell_insertion::insert(cell, params, call.n, rounding)),
-        2 => changed(cell_crossing::enter_sub_window(cell, params, call.n, call.crossed, rounding)),
-        3 => changed(cell_merging::merge_cells(cell, src, params, call.n, rounding)),
-        4 => laid_out(params),
-        5 => fields(cell, params, call.n),
-        _ => Answer {
-            refused: answer::NO_SUCH_KIND,
-            first: 0,
-            second: 0,
-            third: 0,
-        },
+impl Call {
+    pub fn of(header: &[u8; 48]) -> Call {
+        let params = MicroParams {
+            t: usize::from(fields::u16_at(header, 2)),
+            c: u32::from(fields::u16_at(header, 4)),
+        };
+        Call {
+            kind: Kind::from(fields::u8_at(header, 0)),
+            params,
+            n: fields::u64_at(header, 16),
+            crossed: fields::u64_at(header, 24),
+            state: fields::u64_at(header, 32),
+        }
+    }
+
+    pub fn perform(self, cell: &mut [u8], src: &[u8]) -> Answer {
+        let params = self.params;
+        let n = self.n;
+        let rounding = Rounding { state: self.state };
+        match self.kind {
+            Kind::Insert => Answer::from(cell_insertion::insert(cell, params, n, rounding)),
+            Kind::EnterSubWindow => Answer::from(cell_crossing::enter_sub_window(
+                cell,
+                params,
+                n,
+                self.crossed,
+                rounding,
+            )),
+            Kind::MergeCells => {
+                Answer::from(cell_merging::merge_cells(cell, src, params, n, rounding))
+            }
+            Kind::Layout => laid_out(params),
+            Kind::Fields => fields_of(cell, params, n),
+            Kind::Unknown(_) => Answer {
+                refused: answer::NO_SUCH_KIND,
+                values: Values::Changed { draws: 0, state: 0 },
+            },
+        }
     }
 }
 
-fn changed(answer: CellAnswer) -> Answer {
-    let verdict = answer.verdict;
-    Answer {
-        refused: answer::refusal(verdict),
-        first: answer.draws as u64,
-        second: answer.rounding.state,
-        third: 0,
+impl Display for Call {
+    fn fmt<W: fmt::Write>(&self, f: &mut fmt::Formatter<W>) -> fmt::Result {
+        let kind = self.kind;
+        let t = self.params.t;
+        let c = self.params.c;
+        let n = self.n;
+        let crossed = self.crossed;
+        let state = self.state;
+        write!(f, "{kind}, t {t}, c {c}")?;
+        match kind {
+            Kind::Insert | Kind::MergeCells | Kind::Unknown(0) => {
+                write!(f, ", n {n}, state {state}")
+            }
+            Kind::EnterSubWindow => write!(f, ", n {n}, crossed {crossed}, state {state}"),
+            Kind::Layout => Ok(()),
+            Kind::Fields | Kind::Unknown(_) => write!(f, ", n {n}"),
+        }
+    }
+}
+
+impl From<CellAnswer> for Answer {
+    fn from(answer: CellAnswer) -> Answer {
+        Answer {
+            refused: answer.verdict.number(),
+            values: Values::Changed {
+                draws: answer.draws,
+                state: answer.rounding.state,
+            },
+        }
     }
 }
 
 fn laid_out(params: MicroParams) -> Answer {
     let answer = cell_reading::layout(params);
     let top = cell_reading::max_zoom(params.c);
-    let verdict = answer.verdict;
-    let top_verdict = top.verdict;
     Answer {
-        refused: answer::first(answer::refusal(verdict), answer::refusal(top_verdict)),
-        first: answer.layout.depth as u64,
-        second: answer.layout.pixels as u64,
-        third: top.zoom as u64,
+        refused: answer::first(&[answer.verdict.number(), top.verdict.number()]),
+        values: Values::Layout {
+            depth: answer.layout.depth as u64,
+            pixels: answer.layout.pixels as u64,
+            max_zoom: u64::from(top.zoom),
+        },
     }
 }
 
-fn fields(cell: &[u8], params: MicroParams, n: u64) -> Answer {
+fn fields_of(cell: &[u8], params: MicroParams, n: u64) -> Answer {
     let zoom = cell_reading::zoom(cell, params);
     let shutter = cell_reading::shutter(cell, params);
     let pixel = cell_reading::scaled_pixel(cell, params, n);
-    let zoom_verdict = zoom.verdict;
-    let shutter_verdict = shutter.verdict;
-    let pixel_verdict = pixel.verdict;
-    let refused = answer::first(
-        answer::refusal(zoom_verdict),
-        answer::refusal(shutter_verdict),
-    );
     Answer {
-        refused: answer::first(refused, answer::refusal(pixel_verdict)),
-        first: zoom.zoom as u64,
-        second: shutter.shutter as u64,
-        third: floats::bits(pixel.items),
+        refused: answer::first(&[
+            zoom.verdict.number(),
+            shutter.verdict.number(),
+            pixel.verdict.number(),
+        ]),
+        values: Values::Fields {
+            zoom: u64::from(zoom.zoom),
+            shutter: u64::from(shutter.shutter),
+            scaled_pixel: Bits::of(pixel.items),
+        },
     }
 }
 
-pub fn same(a: Answer, b: Answer) -> bool {
-    a.refused == b.refused && a.first == b.first && a.second == b.second && a.third == b.third
-}
-
-pub fn show(rt: &impl Print, call: Call, expected: Answer, came: Answer) -> io::Result<()> {
-    show_call(rt, call)?;
-    report::compare(rt, b"refused by", expected.refused, came.refused)?;
-    show_values(rt, call.kind, expected, came)
-}
-
-fn show_call(rt: &impl Print, call: Call) -> io::Result<()> {
-    let kind = call.kind;
-    match kind {
-        1 => print::text(rt, b"insert"),
-        2 => print::text(rt, b"enter_sub_window"),
-        3 => print::text(rt, b"merge_cells"),
-        4 => print::text(rt, b"MicroLayout::new and max_zoom"),
-        5 => print::text(rt, b"zoom, shutter and scaled_pixel"),
-        _ => print::text(rt, b"no such kind"),
-    }?;
-    report::with(rt, b"t", call.params.t as u64)?;
-    report::with(rt, b"c", call.params.c as u64)?;
-    if kind != 4 {
-        report::with(rt, b"n", call.n)?;
+impl Answer {
+    pub fn of(header: &[u8; 48]) -> Answer {
+        let values = match Kind::from(fields::u8_at(header, 0)) {
+            Kind::Layout => Values::Layout {
+                depth: u64::from(fields::u16_at(header, 6)),
+                pixels: fields::u64_at(header, 16),
+                max_zoom: fields::u64_at(header, 24),
+            },
+            Kind::Fields => Values::Fields {
+                zoom: fields::u64_at(header, 32),
+                shutter: fields::u64_at(header, 40),
+                scaled_pixel: Bits::at(header, 24),
+            },
+            _ => Values::Changed {
+                draws: fields::u32_at(header, 8) as u32,
+                state: fields::u64_at(header, 40),
+            },
+        };
+        Answer { refused: 0, values }
     }
-    if kind == 2 {
-        report::with(rt, b"crossed", call.crossed)?;
-    }
-    if kind < 4 {
-        report::with(rt, b"state", call.state)?;
-    }
-    Ok(())
-}
 
-fn show_values(rt: &impl Print, kind: u64, expected: Answer, came: Answer) -> io::Result<()> {
-    match kind {
-        4 => {
-            report::compare(rt, b"depth", expected.first, came.first)?;
-            report::compare(rt, b"pixels", expected.second, came.second)?;
-            report::compare(rt, b"max_zoom", expected.third, came.third)
-        }
-        5 => {
-            report::compare(rt, b"zoom", expected.first, came.first)?;
-            report::compare(rt, b"shutter", expected.second, came.second)?;
-            report::compare_bits(rt, b"scaled_pixel", expected.third, came.third)
-        }
-        _ => {
-            report::compare(rt, b"draws", expected.first, came.first)?;
-            report::compare(rt, b"state", expected.second, came.second)
+    pub fn show_beside(self, rt: &impl Print, came: Answer) -> io::Result<()> {
+        report::compare(rt, "refused by", self.refused, came.refused)?;
+        match (self.values, came.values) {
+            (
+                Values::Changed { draws, state },
+                Values::Changed {
+                    draws: came_draws,
+                    state: came_state,
+                },
+            ) => {
+                report::compare(rt, "draws", draws, came_draws)?;
+                report::compare(rt, "state", state, came_state)
+            }
+            (
+                Values::Layout {
+                    depth,
+                    pixels,
+                    max_zoom,
+                },
+                Values::Layout {
+                    depth: came_depth,
+                    pixels: came_pixels,
+                    max_zoom: came_max_zoom,
+                },
+            ) => {
+                report::compare(rt, "depth", depth, came_depth)?;
+                report::compare(rt, "pixels", pixels, came_pixels)?;
+                report::compare(rt, "max_zoom", max_zoom, came_max_zoom)
+            }
+            (
+                Values::Fields {
+                    zoom,
+                    shutter,
+                    scaled_pixel,
+                },
+                Values::Fields {
+                    zoom: came_zoom,
+                    shutter: came_shutter,
+                    scaled_pixel: came_scaled_pixel,
+                },
+            ) => {
+                report::compare(rt, "zoom", zoom, came_zoom)?;
+                report::compare(rt, "shutter", shutter, came_shutter)?;
+                report::compare(rt, "scaled_pixel", scaled_pixel, came_scaled_pixel)
+            }
+            // Both are of the record's kind.
+            _ => Ok(()),
         }
     }
 }

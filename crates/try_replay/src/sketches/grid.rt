@@ -8,19 +8,12 @@ const MODULUS: u64 = 36_028_797_018_963_913;
 
 // How many a sketch has, and 0 where it is out of the format's bounds.
 pub fn size_of(sketch: MicroCm) -> usize {
-    let answer = cell_reading::layout(sketch.params);
-    let layout = answer.layout;
-    size(sketch.rows, sketch.cols, layout.depth)
+    let depth = cell_reading::layout(sketch.params).layout.depth;
+    size(sketch.rows, sketch.cols, depth)
 }
 
 fn size(rows: usize, cols: usize, depth: usize) -> usize {
-    if rows > 128 {
-        return 0;
-    }
-    if cols > 65536 {
-        return 0;
-    }
-    if depth > 4104 {
+    if rows > 128 || cols > 65536 || depth > 4104 {
         return 0;
     }
     rows * cols * depth
@@ -39,13 +32,10 @@ fn step(sum: u64, byte: u8) -> u64
     requires { sum < 36_028_797_018_963_913 }
     ensures { result < 36_028_797_018_963_913 }
 {
-    (sum * 257 + byte as u64 + 1) % MODULUS
+    (sum * 257 + u64::from(byte) + 1) % MODULUS
 }
 
 // Whether a grid is the one that a record shows, if it shows one.
 pub fn as_shown(grid: &[u8], shown: &[u8]) -> bool {
-    if shown.len() == 0 {
-        return true;
-    }
-    grid == shown
+    shown.is_empty() || grid == shown
 }

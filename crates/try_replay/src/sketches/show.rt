@@ -1,99 +1,94 @@
 // A wrong call on a sketch, in full.
-use crate::sketches::call::{Answer, Call, Figures};
-use crate::{clocks, report};
-use program_text::print;
+use crate::clocks::Fields;
+use crate::report;
+use crate::sketches::call::{Answer, Call, Figures, Reading};
+use crate::sketches::record::Record;
+use program_text::print::Joined;
 use sketch::MicroCm;
 use std::io;
 
-// The call, and the sketch as it was before it.
-pub fn call(rt: &impl Print, call: Call, sketch: MicroCm) -> io::Result<()> {
-    name(rt, call.kind)?;
-    report::with(rt, b"slot", call.slot)?;
-    settings(rt, sketch)?;
-    arguments(rt, call)
-}
-
-fn name(rt: &impl Print, kind: u64) -> io::Result<()> {
-    match kind {
-        1 => print::text(rt, b"with_dimensions"),
-        2 => print::text(rt, b"seen or now, and the state, set"),
-        3 => print::text(rt, b"update"),
-        4 => print::text(rt, b"update_at"),
-        5 => print::text(rt, b"advance_to"),
-        6 => print::text(rt, b"estimate"),
-        7 => print::text(rt, b"estimate_with"),
-        8 => print::text(rt, b"merge"),
-        9 => print::text(rt, b"max_zoom"),
-        10 => print::text(rt, b"the grid set"),
-        _ => print::text(rt, b"no such kind"),
-    }
-}
-
-fn settings(rt: &impl Print, sketch: MicroCm) -> io::Result<()> {
-    let params = sketch.params;
-    let clock = sketch.clock;
-    let rounding = sketch.rounding;
-    report::with(rt, b"rows", sketch.rows as u64)?;
-    report::with(rt, b"cols", sketch.cols as u64)?;
-    report::with(rt, b"t", params.t as u64)?;
-    report::with(rt, b"c", params.c as u64)?;
-    clocks::show_clock(rt, clocks::fields_of(clock))?;
-    report::with(rt, b"state or seed", rounding.state)
+// Behind the call's name: its slot, the sketch as it was before it, and its arguments.
+pub fn call(rt: &impl Print, record: Record<'_>, sketch: MicroCm) -> io::Result<()> {
+    let slot = record.slot;
+    let rows = sketch.rows;
+    let cols = sketch.cols;
+    let t = sketch.params.t;
+    let c = sketch.params.c;
+    let clock = Fields::from(sketch.clock);
+    let state = sketch.rounding.state;
+    print!(rt;
+        ", slot {slot}, rows {rows}, cols {cols}, t {t}, c {c}{clock}, state or seed {state}"
+    )?;
+    arguments(rt, record.call)?;
+    key(rt, record.key)
 }
 
 fn arguments(rt: &impl Print, call: Call) -> io::Result<()> {
-    let kind = call.kind;
-    match kind {
-        2 => {
-            report::with(rt, b"seen or now to be", call.moment)?;
-            report::with(rt, b"state to be", call.state)
+    match call {
+        Call::Set { moment, state } => {
+            print!(rt; ", seen or now to be {moment}, state to be {state}")
         }
-        3 => report::with(rt, b"times", call.times),
-        4 => {
-            report::with(rt, b"timestamp", call.argument)?;
-            report::with(rt, b"times", call.times)
+        Call::Update { times } => print!(rt; ", times {times}"),
+        Call::UpdateAt { timestamp, times } => {
+            print!(rt; ", timestamp {timestamp}, times {times}")
         }
-        5 => report::with(rt, b"timestamp", call.argument),
-        7 => report::with(rt, b"bits of the fraction", call.argument),
+        Call::AdvanceTo { timestamp } => print!(rt; ", timestamp {timestamp}"),
+        Call::EstimateWith { fraction } => print!(rt; ", bits of the fraction {fraction}"),
         _ => Ok(()),
     }
 }
 
-pub fn answers(rt: &impl Print, kind: u64, expected: Answer, came: Answer) -> io::Result<()> {
-    report::compare(rt, b"refused by", expected.refused, came.refused)?;
-    report::compare(rt, b"n", expected.n, came.n)?;
-    report::compare(rt, b"seen or now", expected.moment, came.moment)?;
-    report::compare(rt, b"state", expected.state, came.state)?;
-    report::compare(rt, b"draws", expected.draws, came.draws)?;
-    report::compare(rt, b"digest of the grid", expected.digest, came.digest)?;
-    report::compare(rt, b"settings kept", expected.kept, came.kept)?;
-    match kind {
-        6 | 7 => figures(rt, expected.figures, came.figures),
-        8 => report::compare(
-            rt,
-            b"digest of the grid merged in",
-            expected.value,
-            came.value,
-        ),
-        9 => report::compare(rt, b"max_zoom", expected.value, came.value),
+fn key(rt: &impl Print, key: &[u32]) -> io::Result<()> {
+    if key.is_empty() {
+        return Ok(());
+    }
+    let columns = Joined {
+        columns: key,
+        between: " ",
+    };
+    print!(rt; "\n  key: {columns}")
+}
+
+pub fn answers(rt: &impl Print, expected: Answer, came: Answer) -> io::Result<()> {
+    report::compare(rt, "refused by", expected.refused, came.refused)?;
+    report::compare(rt, "n", expected.n, came.n)?;
+    report::compare(rt, "seen or now", expected.moment, came.moment)?;
+    report::compare(rt, "state", expected.state, came.state)?;
+    report::compare(rt, "draws", expected.draws, came.draws)?;
+    report::compare(rt, "digest of the grid", expected.digest, came.digest)?;
+    report::compare(
+        rt,
+        "settings kept",
+        u8::from(expected.kept),
+        u8::from(came.kept),
+    )?;
+    match (expected.reading, came.reading) {
+        (Reading::Figures(expected), Reading::Figures(came)) => figures(rt, expected, came),
+        (Reading::MergedIn(expected), Reading::MergedIn(came)) => {
+            report::compare(rt, "digest of the grid merged in", expected, came)
+        }
+        (Reading::MaxZoom(expected), Reading::MaxZoom(came)) => {
+            report::compare(rt, "max_zoom", expected, came)
+        }
+        // Both are of the record's kind.
         _ => Ok(()),
     }
 }
 
 fn figures(rt: &impl Print, expected: Figures, came: Figures) -> io::Result<()> {
-    report::compare_bits(rt, b"Over", expected.over, came.over)?;
-    report::compare_bits(rt, b"Under", expected.under, came.under)?;
-    report::compare_bits(rt, b"Linear", expected.linear, came.linear)?;
-    report::compare_bits(rt, b"fraction", expected.fraction, came.fraction)?;
-    report::compare_bits(
+    report::compare(rt, "Over", expected.over, came.over)?;
+    report::compare(rt, "Under", expected.under, came.under)?;
+    report::compare(rt, "Linear", expected.linear, came.linear)?;
+    report::compare(rt, "fraction", expected.fraction, came.fraction)?;
+    report::compare(
         rt,
-        b"Over from a whole number",
+        "Over from a whole number",
         expected.whole_over,
         came.whole_over,
     )?;
-    report::compare_bits(
+    report::compare(
         rt,
-        b"Under from a whole number",
+        "Under from a whole number",
         expected.whole_under,
         came.whole_under,
     )
@@ -102,32 +97,23 @@ fn figures(rt: &impl Print, expected: Figures, came: Figures) -> io::Result<()> 
 // Of grids that are too long to be recorded nothing is shown.
 pub fn grids(
     rt: &impl Print,
-    kind: u64,
+    record: Record<'_>,
     before: &[u8],
     other: &[u8],
-    expected: &[u8],
     came: &[u8],
 ) -> io::Result<()> {
-    report::bytes(rt, b"grid before", before)?;
-    if kind == 8 {
-        report::bytes(rt, b"grid merged in", small(other))?;
+    report::bytes(rt, "grid before", before)?;
+    if let Call::Merge = record.call {
+        report::bytes(rt, "grid merged in", small(other))?;
     }
-    report::bytes(rt, b"grid expected", expected)?;
-    report::bytes(rt, b"grid that came", small(came))?;
-    print::text(rt, b"\n")
+    report::bytes(rt, "grid expected", record.shown)?;
+    report::bytes(rt, "grid that came", small(came))?;
+    println!(rt)
 }
 
 fn small(grid: &[u8]) -> &[u8] {
     if grid.len() > 200 {
-        return &grid[0..0];
+        return &[];
     }
     grid
-}
-
-pub fn key(rt: &impl Print, columns: &[u32]) -> io::Result<()> {
-    if columns.len() > 0 {
-        report::part(rt, b"key")?;
-        print::columns(rt, columns, b" ")?;
-    }
-    Ok(())
 }
