@@ -1,161 +1,88 @@
 // A line: which command it is, whether it has the words and the sketch that the command needs, and the command.
 use crate::{asking, files, watching};
-use bench_tool_sketches::print::Answers;
+use bench_tool_sketches::line::Line;
 use bench_tool_sketches::slots::Shelf;
-use bench_tool_sketches::usage::Kind;
-use bench_tool_sketches::{card, cases, fresh, items, merge, print, queries, slots, usage};
-use program_text::words;
+use bench_tool_sketches::trouble::Trouble;
+use bench_tool_sketches::usage::Command;
+use bench_tool_sketches::{card, cases, fresh, items, merge, queries, usage};
+use std::alloc::{AllocError, Global};
+use std::io;
 use std::rt::Files;
 
-fn say(out: &mut Answers<impl Print>, line: &[u8]) {
-    print::text(out, words::rest(line, 1));
-    print::text(out, b"\n");
-}
-
-// The commands that change nothing.
-fn look(out: &mut Answers<impl Print>, kind: Kind, line: &[u8], grids: &[u8], shelf: Shelf) {
-    let place = slots::place(words::word(line, 1));
-    let slot = shelf.get(place);
-    let grid = slots::grid(grids, place, slot.size);
-    queries::answer(out, kind, line, slot.sketch, grid);
-}
-
-// The commands on a sketch that is there.
-fn work<R: Files + Print + Alloc>(
-    rt: &R,
-    out: &mut Answers<R>,
-    kind: Kind,
-    line: &[u8],
-    grids: &mut [u8],
-    room: &mut [u8],
+// The sketches, and the room for a store.
+#[derive(Drop)]
+pub struct Tool {
     shelf: Shelf,
-) -> Shelf {
-    match kind {
-        Kind::Update => items::update(out, line, grids, shelf),
-        Kind::Updates => items::updates(out, line, grids, shelf),
-        Kind::UpdateAt => items::update_at(out, line, grids, shelf),
-        Kind::Advance => items::advance(out, line, grids, shelf),
-        Kind::Merge => merge::merge(out, line, grids, room, shelf),
-        Kind::SetClock => cases::set_clock(out, line, shelf),
-        Kind::SetState => cases::set_state(out, line, shelf),
-        Kind::SetGrid => {
-            cases::set_grid(out, line, grids, shelf);
-            shelf
-        }
-        Kind::Save => {
-            files::save(rt, out, line, &grids[..], room, shelf);
-            shelf
-        }
-        _ => {
-            look(out, kind, line, &grids[..], shelf);
-            shelf
-        }
+    store: Vec<u8>,
+}
+
+impl Tool {
+    pub fn new(alloc: Global) -> Result<Tool, AllocError> {
+        Ok(Tool {
+            shelf: Shelf::new(alloc)?,
+            // The store of a grid of 1 MiB has 1,065,984 bytes; the one byte more shows a file that is longer.
+            store: vec![in alloc; 0u8; 1065985]?,
+        })
     }
 }
 
-// The least number of words that a command has, its name among them.
-fn least(kind: Kind) -> usize {
-    match kind {
-        Kind::Grid | Kind::Audit | Kind::Zoom | Kind::Dump | Kind::Watch | Kind::Ask => 2,
-        Kind::Updates | Kind::UpdateAt | Kind::Cell => 4,
-        _ => 3,
-    }
+fn say(rt: &impl Print, line: Line<'_>) -> io::Result<()> {
+    rt.write_all(line.rest(1))?;
+    println!(rt)
 }
 
-// `read` and `ask` have a word that may be left out, and `watch` has as many as there are codes.
-fn words_fit(kind: Kind, count: usize) -> bool {
-    if count == least(kind) {
-        return true;
-    }
-    match kind {
-        Kind::Read => count == 4,
-        Kind::Ask => count == 3,
-        Kind::Watch => count > 2,
-        _ => false,
-    }
-}
-
-// The commands on a sketch and its watched codes, and all others.
-fn watch_or_work<R: Files + Print + Alloc>(
+// What the command does, or why it does nothing.
+fn obey<'l, R: Files + Print + Alloc>(
     rt: &R,
-    out: &mut Answers<R>,
-    kind: Kind,
-    line: &[u8],
-    grids: &mut [u8],
-    room: &mut [u8],
-    columns: &mut [u32; 32768],
-    limits: &mut [u64; 256],
-    shelf: Shelf,
-) -> Shelf {
-    match kind {
-        Kind::Watch => watching::watch(out, line, columns, limits, shelf),
-        Kind::Ask => asking::ask(out, line, &grids[..], &columns[..], &limits[..], shelf),
-        _ => work(rt, out, kind, line, grids, room, shelf),
+    command: Command,
+    line: Line<'l>,
+    tool: &mut Tool,
+) -> Result<(), Trouble<'l>> {
+    let Tool { shelf, store } = tool;
+    match command {
+        Command::New => fresh::new(rt, line, shelf),
+        Command::Update => items::update(rt, line, shelf.kept_of(command, line)?),
+        Command::Updates => items::updates(rt, line, shelf.kept_of(command, line)?),
+        Command::UpdateAt => items::update_at(rt, line, shelf.kept_of(command, line)?),
+        Command::Advance => items::advance(rt, line, shelf.kept_of(command, line)?),
+        Command::Merge => merge::merge(rt, line, shelf, store),
+        Command::Read => queries::read(rt, line, shelf.view_of(command, line)?),
+        Command::Mean => queries::mean(rt, line, shelf.view_of(command, line)?),
+        Command::Cell => queries::one_cell(rt, line, shelf.view_of(command, line)?),
+        Command::Grid => queries::map(rt, shelf.view_of(command, line)?),
+        Command::Audit => queries::audit(rt, shelf.view_of(command, line)?),
+        Command::Zoom => queries::zoom(rt, shelf.view_of(command, line)?),
+        Command::Dump => Ok(queries::dump(rt, shelf.view_of(command, line)?)?),
+        Command::Watch => watching::watch(rt, line, shelf.kept_of(command, line)?),
+        Command::Ask => asking::ask(rt, line, shelf.kept_of(command, line)?),
+        Command::Save => files::save(rt, line, shelf.view_of(command, line)?, store),
+        Command::Load => files::load(rt, line, shelf.slot_of(command, line)?, store),
+        Command::SetClock => cases::set_clock(rt, line, shelf.kept_of(command, line)?),
+        Command::SetState => cases::set_state(rt, line, shelf.kept_of(command, line)?),
+        Command::SetGrid => cases::set_grid(rt, line, shelf.kept_of(command, line)?),
+        Command::Card => Ok(card::card(rt)?),
+        Command::Say => Ok(say(rt, line)?),
+        Command::Help => Ok(usage::help(rt)?),
     }
 }
 
-fn on_sketch<R: Files + Print + Alloc>(
+fn answer<'l, R: Files + Print + Alloc>(
     rt: &R,
-    out: &mut Answers<R>,
-    kind: Kind,
-    line: &[u8],
-    grids: &mut [u8],
-    room: &mut [u8],
-    columns: &mut [u32; 32768],
-    limits: &mut [u64; 256],
-    shelf: Shelf,
-) -> Shelf {
-    let place = slots::place(words::word(line, 1));
-    if place > 3 || !words_fit(kind, words::count(line)) {
-        usage::expected(out, kind);
-        return shelf;
+    line: Line<'l>,
+    tool: &mut Tool,
+) -> Result<(), Trouble<'l>> {
+    let name = line.word(0);
+    if name.is_empty() {
+        return Ok(());
     }
-    if let Kind::Load = kind {
-        return files::load(rt, out, line, grids, room, shelf);
-    }
-    let slot = shelf.get(place);
-    if slot.size == 0 {
-        usage::no_sketch(out, words::word(line, 1));
-        return shelf;
-    }
-    watch_or_work(rt, out, kind, line, grids, room, columns, limits, shelf)
+    let command = Command::from_word(name).ok_or(Trouble::NoCommand)?;
+    obey(rt, command, line, tool)
 }
 
 // One line of the input.
-pub fn run<R: Files + Print + Alloc>(
-    rt: &R,
-    out: &mut Answers<R>,
-    whole: &[u8],
-    grids: &mut [u8],
-    room: &mut [u8],
-    columns: &mut [u32; 32768],
-    limits: &mut [u64; 256],
-    shelf: Shelf,
-) -> Shelf {
-    let line = words::before_comment(whole);
-    let name = words::word(line, 0);
-    if name.len() == 0 {
-        return shelf;
-    }
-    let kind = usage::named(name);
-    match kind {
-        Kind::New => fresh::new(out, line, grids, shelf),
-        Kind::Help => {
-            usage::help(out);
-            shelf
-        }
-        Kind::Card => {
-            card::card(out);
-            shelf
-        }
-        Kind::Say => {
-            say(out, line);
-            shelf
-        }
-        Kind::Unknown => {
-            usage::expected(out, kind);
-            shelf
-        }
-        _ => on_sketch(rt, out, kind, line, grids, room, columns, limits, shelf),
+pub fn run<R: Files + Print + Alloc>(rt: &R, whole: &[u8], tool: &mut Tool) -> io::Result<()> {
+    match answer(rt, Line::new(whole), tool) {
+        Ok(()) => Ok(()),
+        Err(trouble) => trouble.tell(rt),
     }
 }

@@ -1,91 +1,35 @@
 // A list of codes to watch is set.
-use bench_tool_sketches::print::Answers;
-use bench_tool_sketches::slots::{Shelf, Slot};
-use bench_tool_sketches::usage::Kind;
-use bench_tool_sketches::{kept, print, slots, usage, verdicts};
-use codes::WatchAnswer;
-use program_text::{columns, limits, lists, words};
+use bench_tool_sketches::line::Line;
+use bench_tool_sketches::slots::Kept;
+use bench_tool_sketches::trouble::Trouble;
+use bench_tool_sketches::usage::Command;
+use bench_tool_sketches::verdicts;
+use service::Service;
 
-fn set(
-    slot: Slot,
-    given_columns: &[u32],
-    given_limits: &[u64],
-    place: usize,
-    columns: &mut [u32; 32768],
-    limits: &mut [u64; 256],
-) -> WatchAnswer {
-    let mut own_columns = [0u32; 8192];
-    let mut own_limits = [0u64; 64];
-    kept::lend_columns(&columns[..], place, &mut own_columns);
-    kept::lend_limits(&limits[..], place, &mut own_limits);
+// The two lists have room for any line: a column takes two bytes of it, as a comma or a colon follows, and a code four.
+pub fn watch<'l>(rt: &impl Print, line: Line<'l>, kept: Kept<'_>) -> Result<(), Trouble<'l>> {
+    let mut columns = [0u32; 32768];
+    let mut limits = [0u64; 16384];
+    let codes = line
+        .codes(&mut columns, &mut limits)
+        .ok_or(Trouble::Usage(Command::Watch))?;
+    let Kept {
+        service,
+        columns: kept_columns,
+        limits: kept_limits,
+        ..
+    } = kept;
+    let Service { sketch, watch } = *service;
     let answer = codes_setting::set_codes(
-        slot.sketch,
-        slot.watch,
-        given_columns,
-        given_limits,
-        &mut own_columns,
-        &mut own_limits,
+        sketch,
+        watch,
+        codes.columns,
+        codes.limits,
+        kept_columns,
+        kept_limits,
     );
-    kept::keep_columns(columns, place, &own_columns);
-    kept::keep_limits(limits, place, &own_limits);
-    answer
-}
-
-fn told(out: &mut Answers<impl Print>, answer: WatchAnswer, place: usize, shelf: Shelf) -> Shelf {
-    let verdict = answer.verdict;
-    let watch = answer.watch;
-    if !verdict.accepted() {
-        verdicts::refused(out, verdict);
-        return shelf;
-    }
-    print::number(out, b"ok codes=", watch.count as u64);
-    print::text(out, b"\n");
-    shelf.with_watch(place, watch)
-}
-
-fn given(
-    out: &mut Answers<impl Print>,
-    line: &[u8],
-    given_columns: &mut [u32; 32768],
-    given_limits: &mut [u64; 16384],
-    columns: &mut [u32; 32768],
-    limits: &mut [u64; 256],
-    shelf: Shelf,
-) -> Shelf {
-    let list = lists::taken(line, given_columns, given_limits);
-    if !list.good {
-        usage::expected(out, Kind::Watch);
-        return shelf;
-    }
-    let place = slots::place(words::word(line, 1));
-    let answer = set(
-        shelf.get(place),
-        columns::first(given_columns, list.columns),
-        limits::part(given_limits, 0, list.codes),
-        place,
-        columns,
-        limits,
-    );
-    told(out, answer, place, shelf)
-}
-
-// These have room for any line: a column takes two bytes of it, as a comma or a colon follows, and a code four.
-pub fn watch(
-    out: &mut Answers<impl Print>,
-    line: &[u8],
-    columns: &mut [u32; 32768],
-    limits: &mut [u64; 256],
-    shelf: Shelf,
-) -> Shelf {
-    let mut given_columns = [0u32; 32768];
-    let mut given_limits = [0u64; 16384];
-    given(
-        out,
-        line,
-        &mut given_columns,
-        &mut given_limits,
-        columns,
-        limits,
-        shelf,
-    )
+    verdicts::accepted(answer.verdict)?;
+    service.watch = answer.watch;
+    println!(rt; "ok codes={}", answer.watch.count)?;
+    Ok(())
 }

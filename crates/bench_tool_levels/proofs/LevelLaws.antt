@@ -1,16 +1,13 @@
 -- Level by level: what has grown still fits a byte, and where the next level would not, no deeper one does. Assumes nothing.
 use Prim.Native.Nat.{ℕ, zero, suc, ◌+◌, ◌-◌, ◌*◌, ◌^◌, ◌≤◌, ◌<◌, max}
 use mathlib.Core.Path.{◌≡◌, refl, sym, ◌∙◌}
-use mathlib.Core.Bool.{cond}
 use mathlib.Core.List.{List, [], ◌∷◌}
-use lib.Dec.{eqb}
 use lib.ListN.{length, get_or}
 use lib.Seq.{get_or-set_same, get_or-set_other}
 use native.Mathlib.Omega.{arith}
-use native.Mathlib.Decide.{ℕ_discrete, dec_le}
+use native.Mathlib.Decide.{dec_le}
 use native.Mathlib.Nat.{pow-zero, pow-suc, pow-le-pow_right, one-mul, mul_assoc, mul_comm, mul-le-mul_right, le_trans, lt_of_not-le, not-le_of_lt, mul-zero}
 use native.Mathlib.Numerals.{add-one}
-use borrow.Author.Tests.{eq-eqb, ne_eqb}
 use Rattle.laws.specs.Sums.{largest}
 use Rattle.cell.specs.Cell.{pixel_of, with_pixel}
 use Rattle.cell.specs.ZoomIn.{levels_up_to}
@@ -58,8 +55,10 @@ module _ (c m z grown k : ℕ) (w : Growing c m z grown k) where
       no_deeper other e (yes q) = q
       no_deeper other e (no q) = absurd (not-le_of_lt (deeper other (omega arith)) e)
 
-  pub growing_ends : z ≤ k → k ≡ levels_up_to c m z
-  growing_ends h = only c m z k (record { at_most = w.low; fits = rw w.found at w.fits; no_more = λ other l e. le_trans l h })
+  pub growing_ends : z ≤ k → z ≡ levels_up_to c m z
+  growing_ends h =
+      let all : z ≡ k = omega (arith, w.low) in
+      all ∙ only c m z k (record { at_most = w.low; fits = rw w.found at w.fits; no_more = λ other l e. le_trans l h })
 
 -- THE LARGEST of the first i, one of them cleared
 unfoldable pub largest_of : ℕ → (ℕ → ℕ) → ℕ
@@ -72,21 +71,11 @@ largest_of_lem zero f = omega arith
 largest_of_lem (suc k) f = rw (← largest_of_lem k f) refl
 
 -- what the i-th slot holds once it or another is cleared
-left_at : (l : List ℕ) (cleared i x : ℕ) → i < length l → x ≡ get_or l i 0 → pixel_of (with_pixel cleared 0 l) i ≡ cond (eqb i cleared) 0 x
-left_at l cleared i x h e = by (ℕ_discrete i cleared)
-  where
-    by : Dec (i ≡ cleared) → pixel_of (with_pixel cleared 0 l) i ≡ cond (eqb i cleared) 0 x
-    by (yes q) = rw (eq-eqb i cleared q, ← q) (get_or-set_same l i 0 0 h)
-    by (no q) = rw (ne_eqb i cleared q, e) (get_or-set_other l cleared i 0 0 q)
+pub cleared_holds : (l : List ℕ) (cleared i x : ℕ) → i < length l → i ≡ cleared → x ≡ 0 → x ≡ pixel_of (with_pixel cleared 0 l) i
+cleared_holds l cleared i x h q e = rw (e, ← q) (sym (get_or-set_same l i 0 0 h))
 
-pub larger_cleared : (most x i cleared : ℕ) → i ≡ cleared → most ≡ max most (cond (eqb i cleared) 0 x)
-larger_cleared most x i cleared e = rw (eq-eqb i cleared e) (omega arith)
-
-pub larger_pixel : (most x i cleared : ℕ) → (i ≡ cleared → ⊥) → most < x → x ≡ max most (cond (eqb i cleared) 0 x)
-larger_pixel most x i cleared ne l = rw (ne_eqb i cleared ne) (omega arith)
-
-pub larger_most : (most x i cleared : ℕ) → (i ≡ cleared → ⊥) → x ≤ most → most ≡ max most (cond (eqb i cleared) 0 x)
-larger_most most x i cleared ne l = rw (ne_eqb i cleared ne) (omega arith)
+pub other_holds : (l : List ℕ) (cleared i x : ℕ) → (i ≡ cleared → ⊥) → x ≡ get_or l i 0 → x ≡ pixel_of (with_pixel cleared 0 l) i
+other_holds l cleared i x q e = rw e (sym (get_or-set_other l cleared i 0 0 q))
 
 -- i slots were seen
 pub record Seen (l : List ℕ) (cleared most i : ℕ) : Type 0 where
@@ -97,11 +86,11 @@ pub seen_begin : (l : List ℕ) (cleared : ℕ) → Seen l cleared 0 0
 unfolding largest_of
 seen_begin l cleared = record { found = refl; low = omega arith }
 
-pub seen_on : (l : List ℕ) (cleared most i x most' : ℕ) → Seen l cleared most i → i < length l → x ≡ get_or l i 0
-    → most' ≡ max most (cond (eqb i cleared) 0 x) → Seen l cleared most' (i + 1)
+pub seen_on : (l : List ℕ) (cleared most i x most' : ℕ) → Seen l cleared most i → i < length l
+    → x ≡ pixel_of (with_pixel cleared 0 l) i → most' ≡ max most x → Seen l cleared most' (i + 1)
 unfolding largest_of
 seen_on l cleared most i x most' w h e q = record {
-  found = rw (add-one i, left_at l cleared i x h e) (q ∙ rw w.found refl);
+  found = rw (add-one i, ← e) (q ∙ rw w.found refl);
   low = omega arith;
 }
 

@@ -10,30 +10,15 @@ ghost use Rattle.cell.specs.ZoomIn.{levels_up_to};
 pub fn levels(c: u32, most: u8, zoom: u8) -> u8
     ensures { (result ≡ levels_up_to c most zoom) × (result ≤ zoom) }
 {
-    let base = c as u64;
-    let mut grown = most as u64;
-    let mut k: u8 = 0;
-    while k < zoom {
-        grown = grown * base;
+    let base = u64::from(c);
+    let mut grown = u64::from(most);
+    for k in 0..zoom {
+        grown *= base;
         if grown > 255 {
             return k;
         }
-        k += 1;
     }
-    k
-}
-
-// The larger of `most` and what a slot holds once `cleared` is cleared.
-fn larger(most: u8, pixel: u8, slot: usize, cleared: usize) -> u8
-    ensures { result ≡ max most (cond (eqb slot cleared) 0 pixel) }
-{
-    if slot == cleared {
-        return most;
-    }
-    if most < pixel {
-        return pixel;
-    }
-    most
+    zoom
 }
 
 // The largest of these pixels once one of them is cleared; of none, 0.
@@ -41,10 +26,9 @@ pub fn largest_left(pixels: &[u8], cleared: usize) -> u8
     ensures { result ≡ largest (length pixels.now - 1) (pixel_of (with_pixel cleared 0 pixels.now)) }
 {
     let mut most: u8 = 0;
-    let mut slot: usize = 0;
-    while slot < pixels.len() {
-        most = larger(most, pixels[slot], slot, cleared);
-        slot += 1;
+    for (slot, pixel) in pixels.iter().enumerate() {
+        let held = if slot == cleared { 0 } else { *pixel };
+        most = most.max(held);
     }
     most
 }

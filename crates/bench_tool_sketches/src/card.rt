@@ -1,8 +1,5 @@
 // The card of zoom ceilings (document 02, T-03), as the core gives it, in the card's words.
-ghost use Rattle.std.specs.Prelude.{◌≤◌};
-
-use crate::print;
-use crate::print::Answers;
+use std::io;
 
 // 0 of a number that is no base.
 fn ceiling(c: u32) -> u8 {
@@ -10,31 +7,23 @@ fn ceiling(c: u32) -> u8 {
     answer.zoom
 }
 
-// Whether a line of the card ends with this base: the next number gives another ceiling, or none.
-fn ends_line(c: u32) -> bool
-    requires { c ≤ 256 }
-{
-    ceiling(c) != ceiling(c + 1)
-}
-
-fn line(out: &mut Answers<impl Print>, first: u32, last: u32) {
-    print::number(out, b"  ", first as u64);
+fn line(rt: &impl Print, first: u32, last: u32) -> io::Result<()> {
+    let zoom = ceiling(last);
     if first == last {
-        print::number(out, b" gives ", ceiling(last) as u64);
-    } else {
-        print::number(out, b" to ", last as u64);
-        print::number(out, b" give ", ceiling(last) as u64);
+        return println!(rt; "  {first} gives {zoom}");
     }
-    print::text(out, b"\n");
+    println!(rt; "  {first} to {last} give {zoom}")
 }
 
-pub fn card(out: &mut Answers<impl Print>) {
-    print::text(out, b"ok the highest zoom of each base c\n");
-    let mut first: u32 = 2;
+pub fn card(rt: &impl Print) -> io::Result<()> {
+    println!(rt; "ok the highest zoom of each base c")?;
+    let mut first = 2;
     for c in 2..=256 {
-        if ends_line(c) {
-            line(out, first, c);
+        // A line ends where the next number gives another ceiling, or none.
+        if ceiling(c) != ceiling(c + 1) {
+            line(rt, first, c)?;
             first = c + 1;
         }
     }
+    Ok(())
 }

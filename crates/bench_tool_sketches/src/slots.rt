@@ -1,24 +1,119 @@
-// The sketches a to d. The grid of each stands in its own quarter of one lent buffer, and so do the columns and the limits of
-// its watched codes.
-ghost use Rattle.std.specs.Prelude.{◌≤◌};
-
-use codes::Watch;
-use program_text::words;
+// The sketches a to d, and the room that each has for its grid and for the columns and limits of its watched codes.
+use crate::line::Line;
+use crate::trouble::Trouble;
+use crate::usage::Command;
 use service::Service;
 use sketch::MicroCm;
+use std::alloc::{AllocError, Global};
 
 // The most bytes that a grid here may have.
 pub const LIMIT: usize = 1048576;
 
-// A sketch, its watched codes and the bytes of its grid: 0 where no sketch is.
 #[derive(Clone, Copy)]
-pub struct Slot {
-    pub sketch: MicroCm,
-    pub watch: Watch,
-    pub size: usize,
+pub(crate) enum Name {
+    A,
+    B,
+    C,
+    D,
 }
 
+impl Name {
+    pub(crate) fn from_word(word: &[u8]) -> Option<Name> {
+        match word {
+            b"a" => Some(Name::A),
+            b"b" => Some(Name::B),
+            b"c" => Some(Name::C),
+            b"d" => Some(Name::D),
+            _ => None,
+        }
+    }
+}
+
+// A sketch and its watched codes, and how many bytes its grid has.
 #[derive(Clone, Copy)]
+struct Held {
+    service: Service,
+    size: usize,
+}
+
+#[derive(Drop)]
+pub struct Slot {
+    held: Option<Held>,
+    grid: Vec<u8>,
+    columns: [u32; 8192],
+    limits: [u64; 64],
+}
+
+// A sketch that is there, with all that its calls are lent.
+#[derive(Drop)]
+pub struct Kept<'a> {
+    pub service: &'a mut Service,
+    pub grid: &'a mut [u8],
+    pub columns: &'a mut [u32; 8192],
+    pub limits: &'a mut [u64; 64],
+}
+
+// A sketch that is only looked at.
+#[derive(Clone, Copy)]
+pub struct View<'a> {
+    pub sketch: MicroCm,
+    pub grid: &'a [u8],
+}
+
+impl<'a> Kept<'a> {
+    fn view(self) -> View<'a> {
+        let Kept { service, grid, .. } = self;
+        View {
+            sketch: service.sketch,
+            grid,
+        }
+    }
+}
+
+// The first bytes of a room.
+fn first(room: &mut [u8], size: usize) -> &mut [u8] {
+    let size = size.min(room.len());
+    &mut room[..size]
+}
+
+impl Slot {
+    fn new(alloc: Global) -> Result<Slot, AllocError> {
+        Ok(Slot {
+            held: None,
+            grid: vec![in alloc; 0u8; LIMIT]?,
+            columns: [0; 8192],
+            limits: [0; 64],
+        })
+    }
+
+    // The room for a grid of so many bytes.
+    pub fn room(&mut self, size: usize) -> &mut [u8] {
+        first(&mut self.grid, size)
+    }
+
+    // Holds what a fresh start or a load gave over that room.
+    pub fn hold(&mut self, service: Service, size: usize) {
+        self.held = Some(Held { service, size });
+    }
+
+    // The sketch, if one was made.
+    fn kept(&mut self) -> Option<Kept<'_>> {
+        match &mut self.held {
+            None => None,
+            Some(held) => {
+                let size = held.size;
+                Some(Kept {
+                    service: &mut held.service,
+                    grid: first(&mut self.grid, size),
+                    columns: &mut self.columns,
+                    limits: &mut self.limits,
+                })
+            }
+        }
+    }
+}
+
+#[derive(Drop)]
 pub struct Shelf {
     a: Slot,
     b: Slot,
@@ -26,150 +121,62 @@ pub struct Shelf {
     d: Slot,
 }
 
-// The place of a sketch by its name; 4 for what is no name.
-pub fn place(word: &[u8]) -> usize {
-    if word.len() != 1 {
-        return 4;
-    }
-    let name = words::get(word, 0);
-    match name {
-        b'a' => 0,
-        b'b' => 1,
-        b'c' => 2,
-        b'd' => 3,
-        _ => 4,
-    }
-}
-
-// From where to where a place's part stands among the parts of all.
-#[derive(Clone, Copy)]
-pub struct Span {
-    pub from: usize,
-    pub to: usize,
-}
-
-// Where a place's part starts, if each has so much room.
-fn start(place: usize, room: usize) -> usize {
-    let two = std::num::wrapping_add_usize(room, room);
-    match place {
-        0 => 0,
-        1 => room,
-        2 => two,
-        _ => std::num::wrapping_add_usize(two, room),
-    }
-}
-
-// Where so much of a place's room stands among `length`; nowhere if it did not fit.
-pub fn part_of(place: usize, room: usize, size: usize, length: usize) -> Span
-    ensures { (result.from ≤ result.to) × (result.to ≤ length) }
-{
-    let from = start(place, room);
-    if length < from {
-        return Span { from: 0, to: 0 };
-    }
-    if length - from < size {
-        return Span { from: 0, to: 0 };
-    }
-    Span {
-        from,
-        to: from + size,
-    }
-}
-
-// Where a place's grid of so many bytes stands among grids of `length` bytes; nowhere if it did not fit, and then every call
-// would refuse it by 6.
-pub fn span_of(place: usize, size: usize, length: usize) -> Span
-    ensures { (result.from ≤ result.to) × (result.to ≤ length) }
-{
-    part_of(place, LIMIT, size, length)
-}
-
-pub fn grid(grids: &[u8], place: usize, size: usize) -> &[u8] {
-    let span = span_of(place, size, grids.len());
-    words::part(grids, span.from, span.to)
-}
-
-// No bytes are no store: what comes of such a load is a sketch that every call refuses.
-fn empty() -> Slot {
-    let mut grid = [0u8; 1];
-    let bytes = [0u8; 1];
-    let answer = service::load(&mut grid[0..0], &bytes[0..0]);
-    let service = answer.service;
-    Slot::of(service, 0)
-}
-
-impl Slot {
-    // What a fresh start or a load gave, over a grid of so many bytes.
-    pub fn of(service: Service, size: usize) -> Slot {
-        let sketch = service.sketch;
-        let watch = service.watch;
-        Slot {
-            sketch,
-            watch,
-            size,
-        }
-    }
-}
-
 impl Shelf {
-    pub fn new() -> Shelf {
-        Shelf {
-            a: empty(),
-            b: empty(),
-            c: empty(),
-            d: empty(),
+    pub fn new(alloc: Global) -> Result<Shelf, AllocError> {
+        Ok(Shelf {
+            a: Slot::new(alloc)?,
+            b: Slot::new(alloc)?,
+            c: Slot::new(alloc)?,
+            d: Slot::new(alloc)?,
+        })
+    }
+
+    pub(crate) fn slot(&mut self, name: Name) -> &mut Slot {
+        match name {
+            Name::A => &mut self.a,
+            Name::B => &mut self.b,
+            Name::C => &mut self.c,
+            Name::D => &mut self.d,
         }
     }
 
-    pub fn get(self, place: usize) -> Slot {
-        match place {
-            0 => self.a,
-            1 => self.b,
-            2 => self.c,
-            3 => self.d,
-            _ => empty(),
+    // The place that the line names, if it has the words that the command takes.
+    pub fn slot_of<'l>(
+        &mut self,
+        command: Command,
+        line: Line<'l>,
+    ) -> Result<&mut Slot, Trouble<'l>> {
+        match line.name(1) {
+            Some(name) if command.takes(line.count()) => Ok(self.slot(name)),
+            _ => Err(Trouble::Usage(command)),
         }
     }
 
-    pub fn with(self, place: usize, slot: Slot) -> Shelf {
-        let a = self.a;
-        let b = self.b;
-        let c = self.c;
-        let d = self.d;
-        match place {
-            0 => Shelf { a: slot, b, c, d },
-            1 => Shelf { a, b: slot, c, d },
-            2 => Shelf { a, b, c: slot, d },
-            3 => Shelf { a, b, c, d: slot },
-            _ => self,
-        }
+    // The sketch there.
+    pub fn kept_of<'l>(
+        &mut self,
+        command: Command,
+        line: Line<'l>,
+    ) -> Result<Kept<'_>, Trouble<'l>> {
+        let slot = self.slot_of(command, line)?;
+        slot.kept().ok_or(Trouble::NoSketch(line.word(1)))
     }
 
-    // The same place, grid and codes, with the sketch that a call gave back.
-    pub fn with_sketch(self, place: usize, sketch: MicroCm) -> Shelf {
-        let slot = self.get(place);
-        let watch = slot.watch;
-        self.with(
-            place,
-            Slot {
-                sketch,
-                watch,
-                size: slot.size,
-            },
-        )
+    // The same, to be looked at.
+    pub fn view_of<'l>(
+        &mut self,
+        command: Command,
+        line: Line<'l>,
+    ) -> Result<View<'_>, Trouble<'l>> {
+        let kept = self.kept_of(command, line)?;
+        Ok(kept.view())
     }
 
-    // The same place, grid and sketch, with the codes that a call gave back.
-    pub fn with_watch(self, place: usize, watch: Watch) -> Shelf {
-        let slot = self.get(place);
-        let sketch = slot.sketch;
-        self.with(
-            place,
-            Slot {
-                sketch,
-                watch,
-                size: slot.size,
-            },
-        )
+    // The sketch that the third word names.
+    pub(crate) fn other<'l>(&mut self, line: Line<'l>) -> Result<View<'_>, Trouble<'l>> {
+        let trouble = Trouble::NoSketch(line.word(2));
+        let name = line.name(2).ok_or(trouble)?;
+        let kept = self.slot(name).kept().ok_or(trouble)?;
+        Ok(kept.view())
     }
 }
