@@ -60,14 +60,6 @@ pub fn set_zoom(cell: &mut [u8], t: usize, zoom: u8)
     cell[at] = zoom;
 }
 
-// A byte as a number. It stands while crate cell_merging_sums calls it: `u32::from` says as much.
-pub fn wide(x: u8) -> u32
-    ensures value { result ≡ x }
-    ensures upper_bound { result < 256 }
-{
-    x as u32
-}
-
 pub fn shutter(cell: &[u8], t: usize) -> u32
     requires { (t ≤ 4096) × (length cell.now ≡ depth_of t) }
     ensures { result ≡ shutter_of t cell.now }
