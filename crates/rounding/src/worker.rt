@@ -4,7 +4,8 @@ ghost use Rattle.rounding.specs.Draws.{next_state, draw_of, rounded_div};
 
 use crate::{Divided, Draw};
 
-// The product of a and b modulo 2^64, by halves of 32 bits: the carry past 64 bits is dropped.
+// The product of a and b modulo 2^64, by halves of 32 bits: the carry past 64 bits is dropped. No `u64::wrapping_mul`: document 01's
+// list of forms asks for a helper of the program's own.
 fn wrapping_mul(a: u64, b: u64) -> u64
     ensures { result ≡ (a * b) % 2 ^ 64 }
 {

@@ -12,7 +12,7 @@ use sketch::{MicroCm, SketchAnswer};
 use sketch_judging::answer;
 use store::LengthAnswer;
 use store_blocks::{block, chain};
-use store_header::fields;
+use store_header::{Header, fields};
 use store_judging::judge;
 
 // How many bytes to lend for a save.
@@ -76,9 +76,9 @@ pub fn load(grid: &mut [u8], store: &[u8]) -> SketchAnswer
     if !whole.accepted() {
         return turned_back(whole);
     }
-    let sketch = match fields::header_in(&store[4..508]) {
-        Ok(sketch) => sketch,
-        Err(verdict) => return turned_back(verdict),
+    let header = fields::header_in(&store[4..508]);
+    let Header::Sketch(sketch) = header else {
+        return turned_back(Verdict::Refused(header.number()));
     };
     let verdict = judge::behind_header(sketch, &grid[..], store);
     if !verdict.accepted() {

@@ -1,11 +1,12 @@
 -- Document 01, "Turning a call back", for the header: what the numbers of a sketch are refused by, and what a header tells.
-use Rattle.std.specs.Prelude.{ℕ, Bool, not, ◌&&◌, ◌||◌, List, ltb, eqb, drop, Result, Ok, Err}
+use Rattle.std.specs.Prelude.{ℕ, Bool, not, ◌&&◌, ◌||◌, List, ltb, eqb, drop}
 use Rattle.refusal.specs.declared.Verdict.{Verdict}
-use Rattle.refusal.specs.Refusals.{when_accepted}
+use Rattle.refusal.specs.Refusals.{number_of, when_accepted}
 use Rattle.refusal.specs.Causes.{Cause, cause, refuse_by}
-use Rattle.sketch.specs.declared.MicroCm.{MicroCm}
 use Rattle.sketch.specs.Refusals.{numbers_verdict}
 use Rattle.store_bytes.specs.Fill.{all_zero}
+use Rattle.store_header.specs.declared.Header.{Header}
+use Rattle.store_header.specs.declared.Header.TheVariants.{Sketch, Refused}
 use Rattle.store_header.specs.Header.{form_number, field_of, sketch_in}
 
 -- 18 over block 0: the form, the kind of clock, a byte that must be 0, the epoch of a count clock
@@ -23,5 +24,10 @@ bad_form p = cause 18 (wrong_form p)
 abbrev pub header_verdict : List ℕ → Verdict
 header_verdict p = refuse_by (bad_form p) (numbers_verdict (sketch_in p))
 
-unfoldable pub header_in : List ℕ → Result MicroCm Verdict
-header_in p = when_accepted (header_verdict p) (Ok (sketch_in p)) (Err (header_verdict p))
+unfoldable pub header_in : List ℕ → Header
+header_in p = when_accepted (header_verdict p) (Sketch (sketch_in p)) (Refused (number_of (header_verdict p)))
+
+-- document 01's number of a header's answer; 0 is no number of the table
+abbrev pub header_number : Header → ℕ
+header_number (Sketch k) = 0
+header_number (Refused n) = n

@@ -5,9 +5,9 @@ ghost use Rattle.clock.specs.Clock.{reading_of};
 ghost use Rattle.store_header.specs.Refusals.{wrong_form, header_in};
 ghost use Rattle.store_header.specs.Workers.{Put, header_of};
 
+use crate::Header;
 use cell::MicroParams;
 use clock::SubWindowClock;
-use refusal::Verdict;
 use rounding::Rounding;
 use sketch::MicroCm;
 use store_bytes::bytes;
@@ -156,18 +156,18 @@ pub fn sketch_in(payload: &[u8]) -> MicroCm
     }
 }
 
-// The sketch that the header describes, if it is not refused: by 18, then by 1 to 5.
-pub fn header_in(payload: &[u8]) -> Result<MicroCm, Verdict>
+// The header's answer: 18, then 1 to 5.
+pub fn header_in(payload: &[u8]) -> Header
     requires { length payload.now ≡ 504 }
     ensures { result ≡ header_in payload.now }
 {
     if wrong_form(payload) {
-        return Err(Verdict::Refused(18));
+        return Header::Refused(18);
     }
     let sketch = sketch_in(payload);
     let verdict = sketch_judging::judge::numbers(sketch);
     if !verdict.accepted() {
-        return Err(verdict);
+        return Header::Refused(verdict.number());
     }
-    Ok(sketch)
+    Header::Sketch(sketch)
 }

@@ -1,12 +1,11 @@
 -- The ways through the shape of a store: each way out is what its definition gives there. Assumes nothing.
-use Prim.Native.Nat.{ℕ, ◌+◌, ◌*◌, ◌/◌}
+use Prim.Native.Nat.{ℕ, ◌+◌, ◌*◌, ◌/◌, ◌≤◌}
 use mathlib.Core.Path.{◌≡◌, refl, sym, ap, ◌∙◌}
 use mathlib.Core.Bool.{Bool, true, false, not}
-use mathlib.Core.List.{List}
+use mathlib.Core.List.{List, []}
 use lib.ListN.{length}
 use native.Mathlib.Omega.{arith}
 use borrow.Author.Tests.{eq-eqb, ne_eqb}
-use Rattle.std.specs.Prelude.{Result, Ok, Err}
 use Rattle.laws.specs.Parts.{part}
 use Rattle.refusal.specs.declared.Verdict.{Verdict}
 use Rattle.refusal.specs.declared.Verdict.TheVariants.{Accepted}
@@ -17,7 +16,9 @@ use Rattle.refusal.proofs.GateLaws.{gate_open, gate_shut}
 use Rattle.sketch.specs.declared.MicroCm.{MicroCm}
 use Rattle.sketch.specs.Sketch.{grid_bytes}
 use Rattle.sketch.specs.Refusals.{numbers_verdict}
-use Rattle.store_header.specs.Refusals.{wrong_form, header_verdict, header_in}
+use Rattle.store_header.specs.declared.Header.{Header}
+use Rattle.store_header.specs.declared.Header.TheVariants.{Sketch, Refused}
+use Rattle.store_header.specs.Refusals.{wrong_form, header_verdict, header_in, header_number}
 use Rattle.store_header.proofs.AnswerLaws.{header_refused, sketch_said}
 use Rattle.store_bytes.proofs.FillLaws.{part_take}
 use Rattle.store.specs.Store.{store_length}
@@ -25,6 +26,7 @@ use Rattle.store.specs.Workers.{Sized}
 use Rattle.store.specs.Refusals.{refuse_blocks, refuse_length, header_payload}
 use Rattle.store.proofs.GateLaws.{blocks_gate}
 use Rattle.store.proofs.LoadLaws.{sketch_of}
+use Rattle.store.proofs.LoadWork.{load_long, load_payload}
 use Rattle.store_shape.specs.declared.ShapeAnswer.{ShapeAnswer}
 use Rattle.store_shape.specs.Shape.{shaped, shapeless, shape_verdict, shape_call}
 
@@ -42,19 +44,25 @@ module _ (store : List ℕ) where
     shape_damaged n =
         unshaped b (turned_back_lem b sound told n) (gate_shut (refuse_blocks store) (blocks_gate store) left b eb (turned_back_lem b sound told n))
 
-    module _ (m : not sound ≡ false) (h : Result MicroCm Verdict) (eh : h ≡ header_in (part 4 504 store)) where
+    pub shape_long : not sound ≡ false → 508 ≤ length store
+    shape_long m = load_long [] store b sound eb told m
+
+    pub shape_payload : not sound ≡ false → length (part 4 504 store) ≡ 504
+    shape_payload m = load_payload [] store b sound eb told m
+
+    module _ (m : not sound ≡ false) (h : Header) (eh : h ≡ header_in (part 4 504 store)) where
       past_blocks : shape_verdict store ≡ left
       past_blocks = gate_open (refuse_blocks store) (blocks_gate store) left (sym eb ∙ let_pass b sound told m)
 
       answered : header_in (header_payload store) ≡ h
       answered = ap header_in (part_take 4 504 512 store (omega arith)) ∙ sym eh
 
-      pub shape_header : (v : Verdict) → h ≡ Err v → (a : ShapeAnswer) → a ≡ shapeless v → a ≡ shape_call store
-      shape_header v ev =
-          let (told, n) = header_refused (header_payload store) v (answered ∙ ev) in
-          unshaped v n (past_blocks ∙ rw told (refused_leaves v (refuse_length (sketch_of store) store Accepted) v n))
+      pub shape_header : (n i : ℕ) → h ≡ Refused n → i ≡ header_number h → (a : ShapeAnswer) → a ≡ shapeless (verdict.Refused i) → a ≡ shape_call store
+      shape_header n i en ei =
+          let e : i ≡ n = ei ∙ ap header_number en in
+          unshaped (verdict.Refused i) refl (past_blocks ∙ rw (header_refused (header_payload store) n (answered ∙ en)) (ap verdict.Refused (sym e)))
 
-      module _ (k : MicroCm) (ek : h ≡ Ok k) where
+      module _ (k : MicroCm) (ek : h ≡ Sketch k) where
         sketch_is : k ≡ sketch_of store
         sketch_is = (sketch_said (header_payload store) k (answered ∙ ek)).1
 

@@ -7,7 +7,7 @@ ghost use Rattle.store_shape.specs.Shape.{shaped, shapeless, shape_call};
 
 use refusal::Verdict;
 use sketch::MicroCm;
-use store_header::fields;
+use store_header::{Header, fields};
 use store_judging::judge;
 
 // What a store says of its sketch; all 0 if refused.
@@ -55,9 +55,9 @@ pub fn shape(store: &[u8]) -> ShapeAnswer
     if !whole.accepted() {
         return turned_back(whole);
     }
-    let sketch = match fields::header_in(&store[4..508]) {
-        Ok(sketch) => sketch,
-        Err(verdict) => return turned_back(verdict),
+    let header = fields::header_in(&store[4..508]);
+    let Header::Sketch(sketch) = header else {
+        return turned_back(Verdict::Refused(header.number()));
     };
     let size = judge::grid_bytes(sketch);
     if store.len() != judge::store_bytes(size) {
