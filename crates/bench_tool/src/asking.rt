@@ -4,7 +4,7 @@ use bench_tool_sketches::slots::Kept;
 use bench_tool_sketches::trouble::Trouble;
 use bench_tool_sketches::usage::Command;
 use bench_tool_sketches::verdicts;
-use program_text::print;
+use program_text::print::Joined;
 use service::Service;
 use sketch::MicroCm;
 use std::io;
@@ -35,9 +35,14 @@ fn tell_code(rt: &impl Print, watched: Watched<'_>, code: u8) -> io::Result<()> 
         .unwrap_or(&[]);
     let limit = limits.get(place).copied().unwrap_or(0);
     let answer = sketch_reading::estimate(sketch, key, grid);
-    print!(rt; "  code {code} columns=")?;
-    print::columns(rt, key, b",")?;
-    println!(rt; " over_items={} limit={limit}", answer.over)
+    let key = Joined {
+        columns: key,
+        between: ",",
+    };
+    println!(rt;
+        "  code {code} columns={key} over_items={} limit={limit}",
+        answer.over
+    )
 }
 
 // The bytes of the list, 64 if the line does not say: no list needs more.

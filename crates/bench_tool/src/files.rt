@@ -4,7 +4,8 @@ use bench_tool_sketches::slots::{LIMIT, Slot, View};
 use bench_tool_sketches::trouble::Trouble;
 use bench_tool_sketches::{fresh, verdicts};
 use cell::MicroParams;
-use program_text::{fields, files, words};
+use program_text::files::Unread;
+use program_text::{fields, files};
 use std::rt::Files;
 
 pub fn save<'l, R: Files + Print + Alloc>(
@@ -47,14 +48,10 @@ pub fn load<'l, R: Files + Print + Alloc>(
     room: &mut [u8],
 ) -> Result<(), Trouble<'l>> {
     let name = line.word(2);
-    let taken = files::read(rt, name, room);
-    if taken.count >= room.len() {
-        return Err(Trouble::LargeFile(name));
-    }
-    if !taken.whole {
-        return Err(Trouble::Unreadable(name));
-    }
-    let store = words::part(&room[..], 0, taken.count);
+    let store = files::read_whole(rt, name, room).map_err(|unread| match unread {
+        Unread::TooLong => Trouble::LargeFile(name),
+        Unread::Failed => Trouble::Unreadable(name),
+    })?;
     let size = size_in(store);
     let answer = service::load(slot.room(size), store);
     verdicts::accepted(answer.verdict)?;

@@ -1,7 +1,6 @@
 // A line of the input by its words; the first is the command's name.
 use crate::slots::Name;
-use program_text::numbers::Found;
-use program_text::{columns, limits, lists, numbers, words};
+use program_text::{columns, lists, numbers, words};
 
 // The tallest sketch has 128 rows.
 pub(crate) const ROWS: usize = 128;
@@ -19,13 +18,6 @@ pub struct Codes<'a> {
     pub limits: &'a [u64],
 }
 
-fn value(found: Found) -> Option<u64> {
-    match found {
-        Found::Value(value) => Some(value),
-        Found::Nothing => None,
-    }
-}
-
 impl<'a> Line<'a> {
     pub fn new(whole: &'a [u8]) -> Line<'a> {
         Line {
@@ -33,7 +25,7 @@ impl<'a> Line<'a> {
         }
     }
 
-    // How many words there are; 16 stands for more too.
+    // How many words there are.
     pub fn count(self) -> usize {
         words::count(self.text)
     }
@@ -54,36 +46,26 @@ impl<'a> Line<'a> {
     }
 
     pub(crate) fn number(self, place: usize) -> Option<u64> {
-        value(numbers::number(self.word(place)))
+        numbers::parse(self.word(place))
     }
 
     pub fn at_most(self, place: usize, most: u64) -> Option<u64> {
-        value(numbers::at_most(self.word(place), most))
+        self.number(place).filter(|number| *number <= most)
     }
 
     // The 16 digits of an f64.
     pub(crate) fn bits(self, place: usize) -> Option<u64> {
-        value(numbers::bits(self.word(place)))
+        numbers::parse_bits(self.word(place))
     }
 
     // The columns of a key, put into `room`.
     pub(crate) fn key<'k>(self, place: usize, room: &'k mut [u32; ROWS]) -> Option<&'k [u32]> {
-        let count = columns::taken(self.word(place), room);
-        if count == 0 {
-            return None;
-        }
-        Some(columns::first(room, count))
+        columns::read(self.word(place), room)
     }
 
     // The codes from the third word on; none if a word is no code.
     pub fn codes<'k>(self, columns: &'k mut [u32], limits: &'k mut [u64]) -> Option<Codes<'k>> {
-        let list = lists::taken(self.text, columns, limits);
-        if !list.good {
-            return None;
-        }
-        Some(Codes {
-            columns: columns::first(columns, list.columns),
-            limits: limits::part(limits, 0, list.codes),
-        })
+        let (columns, limits) = lists::read(self.text, columns, limits)?;
+        Some(Codes { columns, limits })
     }
 }

@@ -7,6 +7,7 @@ use crate::verdicts;
 use crate::verdicts::Told;
 use cell::MicroParams;
 use program_text::floats;
+use program_text::print::HexBytes;
 use refusal::Verdict;
 use std::io;
 
@@ -183,9 +184,8 @@ fn draw(rt: &impl Print, cell: Picture<'_>) -> io::Result<()> {
 
 // The call on one cell knows no other index than 0; here it is told as the calls on the grid tell it.
 fn tell_unsound(rt: &impl Print, index: usize, cell: &[u8]) -> io::Result<()> {
-    print!(rt; "{}; its bytes: ", Told(Verdict::Unsound(index)))?;
-    program_text::print::bytes(rt, cell)?;
-    println!(rt)
+    let told = Told(Verdict::Unsound(index));
+    println!(rt; "{told}; its bytes: {}", HexBytes(cell))
 }
 
 pub fn one_cell<'l>(rt: &impl Print, line: Line<'l>, view: View<'_>) -> Result<(), Trouble<'l>> {

@@ -5,6 +5,7 @@ use crate::slots::View;
 use crate::trouble::Trouble;
 use crate::verdicts;
 use clock::SubWindowClock;
+use program_text::print::HexBytes;
 use sketch::Finding;
 use std::io;
 
@@ -41,9 +42,8 @@ pub fn dump(rt: &impl Print, view: View<'_>) -> io::Result<()> {
     let now = clock_calls::n(sketch.clock);
     let moment = moment(sketch.clock);
     let state = sketch.rounding.state;
-    print!(rt; "ok clock={moment} n={} state=0x{state:016x} grid=", now.n)?;
-    program_text::print::bytes(rt, grid)?;
-    println!(rt)
+    let (n, grid) = (now.n, HexBytes(grid));
+    println!(rt; "ok clock={moment} n={n} state=0x{state:016x} grid={grid}")
 }
 
 // What a clock has seen, or its now.
