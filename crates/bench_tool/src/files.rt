@@ -30,7 +30,7 @@ pub fn save<'l, R: Files + Print + Alloc>(
 fn size_in(store: &[u8]) -> usize {
     let params = MicroParams {
         t: fields::u32_at(store, 16) as usize,
-        c: fields::u32_at(store, 20) as u32,
+        c: fields::u32_at(store, 20),
     };
     let rows = fields::u32_at(store, 8) as usize;
     let cols = fields::u32_at(store, 12) as usize;

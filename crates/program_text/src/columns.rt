@@ -2,7 +2,6 @@
 ghost use Rattle.std.specs.Prelude.{◌<◌, ◌≤◌, IfSome, length};
 
 use crate::numbers;
-pub use crate::old::columns::{copy, first, part, taken};
 
 // The columns of a word, at the front of `room`. None if the word is no list of columns, or of more than there is room for.
 pub fn read<'a>(word: &[u8], room: &'a mut [u32]) -> Option<&'a [u32]>

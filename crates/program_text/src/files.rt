@@ -2,7 +2,6 @@
 // other is no file's.
 ghost use Rattle.std.specs.Prelude.{◌<◌, ◌≤◌, IfOk, length};
 
-pub use crate::old::files::{Taken, read};
 use std::fs::{File, OpenFile, OpenOptions};
 use std::io::{Error, ErrorKind, Read, Write};
 use std::rt::Files;

@@ -1,7 +1,6 @@
 // Lines from a reader, as standard input. A buffer is lent that holds what was read and not used yet; a line that does not fit it is turned back.
 ghost use Rattle.std.specs.Prelude.{◌≤◌, length};
 
-pub use crate::old::lines::{Lines, Seen, next, none};
 use std::io::Read;
 use std::{io, mem};
 

@@ -2,7 +2,6 @@
 // takes them: whether they are one a row for each code, the core judges.
 ghost use Rattle.std.specs.Prelude.{◌<◌, ◌≤◌, IfSome, length};
 
-pub use crate::old::lists::{List, taken};
 use crate::words::Words;
 use crate::{columns, numbers};
 

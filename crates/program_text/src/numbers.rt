@@ -1,7 +1,6 @@
 // Numbers in words, decimal or 0x, and bytes in hexadecimal digits.
 ghost use Rattle.std.specs.Prelude.{◌≤◌, ◌<◌, ◌≡◌, IfSome, length};
 
-pub use crate::old::numbers::{Found, at_most, bits, low_half, number, put};
 use crate::words;
 
 fn of_digits(digits: &[u8], radix: u32) -> Option<u64>

@@ -1,5 +1,4 @@
 // What `print!` writes of bytes and of keys, and a failure on standard error.
-pub use crate::old::print::{bytes, columns, hex, number, text};
 use std::fmt::Display;
 use std::{fmt, io};
 

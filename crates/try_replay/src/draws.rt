@@ -46,7 +46,7 @@ impl Call {
             3 => Kind::UnbiasedDiv { v, d },
             4 => Kind::New,
             5 => Kind::NextInARow {
-                draws: fields::u32_at(header, 4) as u32,
+                draws: fields::u32_at(header, 4),
             },
             _ => Kind::Unknown,
         };
@@ -97,7 +97,7 @@ impl Answer {
             refused: 0,
             value: fields::u64_at(header, 40),
             state: fields::u64_at(header, 16),
-            draws: fields::u32_at(header, 4) as u32,
+            draws: fields::u32_at(header, 4),
         }
     }
 

@@ -195,7 +195,7 @@ impl Answer {
                 scaled_pixel: Bits::at(header, 24),
             },
             _ => Values::Changed {
-                draws: fields::u32_at(header, 8) as u32,
+                draws: fields::u32_at(header, 8),
                 state: fields::u64_at(header, 40),
             },
         };

@@ -63,7 +63,7 @@ pub struct Answer {
 
 impl Call {
     pub fn of(header: &[u8; 64], words: &[u8]) -> Call {
-        let times = fields::u32_at(header, 12) as u32;
+        let times = fields::u32_at(header, 12);
         let argument = fields::u64_at(header, 16);
         match fields::u8_at(header, 0) {
             1 => Call::WithDimensions(fresh_of(words)),
@@ -123,7 +123,7 @@ pub fn fresh_of(words: &[u8]) -> MicroCm {
     };
     let params = MicroParams {
         t: fields::u64_at(words, 16) as usize,
-        c: fields::u32_at(words, 24) as u32,
+        c: fields::u32_at(words, 24),
     };
     MicroCm {
         rows: fields::u64_at(words, 0) as usize,
