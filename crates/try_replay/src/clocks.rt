@@ -103,11 +103,13 @@ struct Call {
 // How the call leaves the clock, and what it then reads. A clock that was moved keeps its frame: 1, and 0 for another.
 #[derive(Clone, Copy, PartialEq, Eq)]
 struct Answer {
+    // A number: it is printed as one, and NO_SUCH_KIND is no verdict's; an enum of both would be turned back at each use.
     refused: u8,
     moment: u64,
     crossed: u64,
     n: u64,
     fraction: Bits,
+    // A number: a broken record may hold any, and it is printed.
     same_frame: u8,
 }
 

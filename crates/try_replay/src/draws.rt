@@ -26,6 +26,7 @@ struct Call {
 
 #[derive(Clone, Copy, PartialEq, Eq)]
 struct Answer {
+    // A number: it is printed as one, and NO_SUCH_KIND is no verdict's; an enum of both would be turned back at each use.
     refused: u8,
     value: u64,
     state: u64,

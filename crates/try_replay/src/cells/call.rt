@@ -14,6 +14,7 @@ enum Kind {
     MergeCells,
     Layout,
     Fields,
+    // The number that a broken record holds, which may be any: what the call is shown with hangs on it.
     Unknown(u8),
 }
 
@@ -47,6 +48,7 @@ enum Values {
 
 #[derive(Clone, Copy, PartialEq, Eq)]
 pub struct Answer {
+    // A number: it is printed as one, and NO_SUCH_KIND is no verdict's; an enum of both would be turned back at each use.
     refused: u8,
     values: Values,
 }

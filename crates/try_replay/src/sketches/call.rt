@@ -50,6 +50,7 @@ pub enum Reading {
 // How the call leaves the sketch and what it gives.
 #[derive(Clone, Copy, PartialEq, Eq)]
 pub struct Answer {
+    // A number: it is printed as one, and NO_SUCH_KIND is no verdict's; an enum of both would be turned back at each use.
     pub refused: u8,
     pub n: u64,
     pub moment: u64,

@@ -22,6 +22,7 @@ fn size(rows: usize, cols: usize, depth: usize) -> usize {
 // docs/ORACLE.md's digest.
 pub fn digest(grid: &[u8]) -> u64 {
     let mut sum: u64 = 0;
+    // A loop: its invariant keeps the sum below the modulus, as `step` asks; `fold` asks the same of its closure, and is no plainer.
     for byte in grid {
         sum = step(sum, *byte);
     }

@@ -21,6 +21,7 @@ pub struct Merged<'a> {
 // What a call gives beside the grid's bytes.
 #[derive(Clone, Copy)]
 pub struct Outcome {
+    // A number: it is printed as one, and NO_SUCH_KIND is no verdict's; an enum of both would be turned back at each use.
     refused: u8,
     pub sketch: MicroCm,
     draws: u64,
