@@ -1,8 +1,6 @@
 // Numbers in words, decimal or 0x, and bytes in hexadecimal digits.
 ghost use Rattle.std.specs.Prelude.{◌≤◌, ◌<◌, ◌≡◌, IfSome, length};
 
-use crate::words;
-
 fn of_digits(digits: &[u8], radix: u32) -> Option<u64>
     requires least { 2 ≤ radix }
     requires most { radix ≤ 36 }
@@ -39,24 +37,6 @@ pub fn parse_bits(word: &[u8]) -> Option<u64>
         return None;
     }
     of_digits(word, 16)
-}
-
-// The number that the word of this place was seen to be.
-pub fn value(line: &[u8], place: usize) -> u64 {
-    parse(words::word(line, place)).unwrap_or_default()
-}
-
-// Whether the words from the one of this number on, `count` of them, are numbers.
-pub fn all_numbers(line: &[u8], from: usize, count: usize) -> bool {
-    (0..count).all(|place| parse(words::word(line, from.wrapping_add(place))).is_some())
-}
-
-// A product; 2^64 - 1 where a factor is past 32 bits, and so no `saturating_mul`.
-pub fn product(a: u64, b: u64) -> u64 {
-    match (u32::try_from(a), u32::try_from(b)) {
-        (Ok(a), Ok(b)) => u64::from(a) * u64::from(b),
-        _ => u64::MAX,
-    }
 }
 
 // Whether every byte of a word is a hexadecimal digit.
