@@ -1,12 +1,14 @@
 -- The ways through the setting of a list. Assumes nothing.
-use Prim.Native.Nat.{ℕ, ◌+◌, ◌*◌, ◌%◌, ◌≤◌, ◌<◌}
-use mathlib.Core.Path.{◌≡◌, refl, sym, ◌∙◌}
+use Prim.Native.Nat.{ℕ, suc, ◌+◌, ◌*◌, ◌%◌, ◌≤◌, ◌<◌}
+use mathlib.Core.Path.{◌≡◌, refl, sym, ap, ◌∙◌}
 use mathlib.Core.Bool.{Bool, true, false, not}
-use mathlib.Core.List.{List, ◌++◌}
+use mathlib.Core.List.{List, ◌∷◌, ◌++◌, append_assoc}
 use native.Mathlib.Omega.{arith}
 use native.Mathlib.Nat.{mul-le-mul, mul-mod_left}
 use lib.Dec.{eqb}
-use lib.ListN.{length, drop}
+use lib.ListN.{length, take, drop, get_or, set, length-set}
+use lib.Seq.{drop-cons, take-suc, set_at, length-take-le}
+use native.Mathlib.Numerals.{add-one}
 use borrow.Author.Tests.{ne_eqb}
 use Rattle.refusal.specs.declared.Verdict.{Verdict}
 use Rattle.refusal.specs.declared.Verdict.TheVariants.{Accepted}
@@ -21,6 +23,23 @@ use Rattle.codes.specs.declared.Watch.{Watch}
 use Rattle.codes.specs.Codes.{onto}
 use Rattle.codes.specs.Refusals.{codes_fit, set_verdict, new_list, set_outcome, set_call}
 use Rattle.codes.proofs.VerdictLaws.{GoodSet, set_accepted}
+
+-- THE COPIES: before i what is given, from i on what stood there
+pub record Copying {A : Type 0} (from b₀ b : List A) (i : ℕ) : Type 0 where
+  pub done : b ≡ take i from ++ drop i b₀
+  pub same : length b ≡ length b₀
+
+module _ {A : Type 0} (from b₀ b : List A) (i : ℕ) (w : Copying from b₀ b i) where
+  pub copying_on : length from ≡ length b₀ → i < length b₀ → (x : A) → x ≡ get_or from i x → Copying from b₀ (set b i x) (i + 1)
+  copying_on whole h x e =
+      let c : i < length from = omega arith in
+      let q : length (take i from) ≡ i = length-take-le i from (omega arith) in
+      record {
+        done =
+            rw (w.done, drop-cons b₀ i x h, set_at (take i from) (get_or b₀ i x) (drop (suc i) b₀) x i q, add-one i, take-suc from i x c, append_assoc)
+            (ap (λ (y : A). take i from ++ (y ∷ drop (suc i) b₀)) e);
+        same = length-set b i x ∙ w.same;
+      }
 
 -- ONE COLUMN A ROW for each code
 pub even_not : (size count rows : ℕ) → (size % rows ≡ 0 → ⊥) → eqb (size % rows) 0 ≡ eqb size (count * rows)

@@ -3,11 +3,21 @@
 
 mod judge;
 
-ghost use Rattle.std.specs.Prelude.{◌≡◌};
+ghost use Rattle.std.specs.Prelude.{◌≡◌, length};
 ghost use Rattle.codes.specs.Refusals.{set_outcome, set_call};
 
 use codes::{Watch, WatchAnswer};
 use sketch::MicroCm;
+
+// A loop, and no `copy_from_slice`, as `store_bytes::bytes::copy` is one, and for its reason.
+fn copy<T: Copy>(kept: &mut [T], given: &[T])
+    requires { length given.now ≡ length kept.old }
+    ensures { kept.new ≡ given.now }
+{
+    for (i, one) in kept.iter_mut().enumerate() {
+        *one = given[i];
+    }
+}
 
 // The codes to watch from now on, in place of those before: their columns one code behind another, one a row, and a limit
 // for each. They count as below their limits until the first asking. A refused list leaves all as it was.
@@ -27,8 +37,8 @@ pub fn set_codes(
     if !verdict.accepted() {
         return WatchAnswer { verdict, watch };
     }
-    kept_columns[..columns.len()].copy_from_slice(columns);
-    kept_limits[..count].copy_from_slice(limits);
+    copy(&mut kept_columns[..columns.len()], columns);
+    copy(&mut kept_limits[..count], limits);
     WatchAnswer {
         verdict,
         watch: Watch {

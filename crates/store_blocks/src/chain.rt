@@ -55,7 +55,7 @@ pub fn copy_out(out: &mut [u8], store: &[u8], at: usize)
         let j = at + i;
         let start = j + j / 504 * 8 + 516;
         let size = in_block(j, out.len() - i);
-        out[i..i + size].copy_from_slice(&store[start..start + size]);
+        bytes::copy(&mut out[i..i + size], &store[start..start + size]);
         i += size;
     }
 }

@@ -91,6 +91,10 @@ filled_alike n l m a = filled_is n l (filled n m) (filled_length n m) (λ i h. a
 pub filled_full : (n : ℕ) (l : List ℕ) → length l ≡ n → filled n l ≡ l
 filled_full n l e = filled_is n l l e (λ i h. refl)
 
+-- what is copied into the front of a list is the front of the other
+pub front_copied : (b l y : List ℕ) (n : ℕ) → n ≡ min (length l) (length b) → y ≡ take (length (take n b)) l → y ≡ take n l
+front_copied b l y n en ey = ey ∙ ap (λ (m : ℕ). take m l) (length-take-le n b (omega arith))
+
 -- what there is room for, and zeros behind it
 module _ (b l y z : List ℕ) (n : ℕ) (en : n ≡ min (length l) (length b)) (ey : y ≡ take n l) where
   abbrev fronted : List ℕ

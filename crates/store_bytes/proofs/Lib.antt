@@ -1,2 +1,3 @@
+pub mod CopyLoops
 pub mod FillLaws
 pub mod NumberLaws

@@ -6,8 +6,8 @@ use Rattle.codes_setting.proofs.set_codes.Goals as goal
 pub returns-then-not-accepted : goal.returns-then-not-accepted
 returns-then-not-accepted c = search (set_refused, rules)
 
-pub slice_bounds-copy_from_slice-end : goal.slice_bounds-copy_from_slice-end
-slice_bounds-copy_from_slice-end c = search (columns_room, rules)
+pub slice_bounds-copy-end : goal.slice_bounds-copy-end
+slice_bounds-copy-end c = search (columns_room, rules)
 
 pub returns : goal.returns
 returns c = search (set_done, rules)
