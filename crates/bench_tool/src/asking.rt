@@ -1,11 +1,11 @@
 // Which of the watched codes have newly reached their limit.
+use crate::watching::Lists;
 use bench_tool_sketches::line::Line;
-use bench_tool_sketches::slots::Kept;
+use bench_tool_sketches::slots::{Kept, Slot};
 use bench_tool_sketches::trouble::Trouble;
 use bench_tool_sketches::usage::Command;
 use bench_tool_sketches::verdicts;
 use program_text::print::Joined;
-use service::Service;
 use sketch::MicroCm;
 use std::io;
 
@@ -53,19 +53,20 @@ fn room_in(line: Line<'_>) -> Option<usize> {
     Some(line.at_most(2, CODES as u64)? as usize)
 }
 
-pub fn ask<'l>(rt: &impl Print, line: Line<'l>, kept: Kept<'_>) -> Result<(), Trouble<'l>> {
+pub fn ask<'l>(
+    rt: &impl Print,
+    line: Line<'l>,
+    kept: Kept<'_>,
+    lists: &Lists,
+) -> Result<(), Trouble<'l>> {
     let room = room_in(line).ok_or(Trouble::Usage(Command::Ask))?;
     let mut list = [0u8; CODES];
     let lent = &mut list[..room.min(CODES)];
-    let Kept {
-        service,
-        grid,
-        columns,
-        limits,
-    } = kept;
-    let Service { sketch, watch } = *service;
+    let Kept { slot, grid } = kept;
+    let Lists { columns, limits } = lists;
+    let Slot { sketch, watch, .. } = *slot;
     let answer = codes_asking::ask(sketch, watch, columns, limits, grid, lent);
-    service.watch = answer.watch;
+    slot.watch = answer.watch;
     verdicts::accepted(answer.verdict)?;
     println!(rt; "ok listed={}", answer.listed)?;
     let watched = Watched {

@@ -1,7 +1,8 @@
 // A line: which command it is, whether it has the words and the sketch that the command needs, and the command.
+use crate::watching::KeptLists;
 use crate::{asking, files, watching};
 use bench_tool_sketches::line::Line;
-use bench_tool_sketches::slots::Shelf;
+use bench_tool_sketches::slots::Bench;
 use bench_tool_sketches::trouble::Trouble;
 use bench_tool_sketches::usage::Command;
 use bench_tool_sketches::{card, cases, fresh, items, merge, queries, usage};
@@ -12,14 +13,14 @@ use std::rt::Files;
 // The sketches, and the room for a store.
 #[derive(Drop)]
 pub struct Tool {
-    shelf: Shelf,
+    bench: Bench,
     store: Vec<u8>,
 }
 
 impl Tool {
     pub fn new(alloc: Global) -> Result<Tool, AllocError> {
         Ok(Tool {
-            shelf: Shelf::new(alloc)?,
+            bench: Bench::new(alloc)?,
             // The store of a grid of 1 MiB has 1,065,984 bytes; the one byte more shows a file that is longer.
             store: vec![in alloc; 0u8; 1065985]?,
         })
@@ -37,29 +38,30 @@ fn obey<'l, R: Files + Print + Alloc>(
     command: Command,
     line: Line<'l>,
     tool: &mut Tool,
+    lists: &mut KeptLists,
 ) -> Result<(), Trouble<'l>> {
-    let Tool { shelf, store } = tool;
+    let Tool { bench, store } = tool;
     match command {
-        Command::New => fresh::new(rt, line, shelf),
-        Command::Update => items::update(rt, line, shelf.kept_of(command, line)?),
-        Command::Updates => items::updates(rt, line, shelf.kept_of(command, line)?),
-        Command::UpdateAt => items::update_at(rt, line, shelf.kept_of(command, line)?),
-        Command::Advance => items::advance(rt, line, shelf.kept_of(command, line)?),
-        Command::Merge => merge::merge(rt, line, shelf, store),
-        Command::Read => queries::read(rt, line, shelf.view_of(command, line)?),
-        Command::Mean => queries::mean(rt, line, shelf.view_of(command, line)?),
-        Command::Cell => queries::one_cell(rt, line, shelf.view_of(command, line)?),
-        Command::Grid => queries::map(rt, shelf.view_of(command, line)?),
-        Command::Audit => queries::audit(rt, shelf.view_of(command, line)?),
-        Command::Zoom => queries::zoom(rt, shelf.view_of(command, line)?),
-        Command::Dump => Ok(queries::dump(rt, shelf.view_of(command, line)?)?),
-        Command::Watch => watching::watch(rt, line, shelf.kept_of(command, line)?),
-        Command::Ask => asking::ask(rt, line, shelf.kept_of(command, line)?),
-        Command::Save => files::save(rt, line, shelf.view_of(command, line)?, store),
-        Command::Load => files::load(rt, line, shelf.slot_of(command, line)?, store),
-        Command::SetClock => cases::set_clock(rt, line, shelf.kept_of(command, line)?),
-        Command::SetState => cases::set_state(rt, line, shelf.kept_of(command, line)?),
-        Command::SetGrid => cases::set_grid(rt, line, shelf.kept_of(command, line)?),
+        Command::New => fresh::new(rt, line, bench),
+        Command::Update => items::update(rt, line, bench.kept_of(command, line)?),
+        Command::Updates => items::updates(rt, line, bench.kept_of(command, line)?),
+        Command::UpdateAt => items::update_at(rt, line, bench.kept_of(command, line)?),
+        Command::Advance => items::advance(rt, line, bench.kept_of(command, line)?),
+        Command::Merge => merge::merge(rt, line, bench, store),
+        Command::Read => queries::read(rt, line, bench.view_of(command, line)?),
+        Command::Mean => queries::mean(rt, line, bench.view_of(command, line)?),
+        Command::Cell => queries::one_cell(rt, line, bench.view_of(command, line)?),
+        Command::Grid => queries::map(rt, bench.view_of(command, line)?),
+        Command::Audit => queries::audit(rt, bench.view_of(command, line)?),
+        Command::Zoom => queries::zoom(rt, bench.view_of(command, line)?),
+        Command::Dump => Ok(queries::dump(rt, bench.view_of(command, line)?)?),
+        Command::Watch => watching::watch(rt, line, bench.kept_of(command, line)?, lists.of(line)),
+        Command::Ask => asking::ask(rt, line, bench.kept_of(command, line)?, lists.of(line)),
+        Command::Save => files::save(rt, line, bench.view_of(command, line)?, store),
+        Command::Load => files::load(rt, line, bench.place_of(command, line)?, store),
+        Command::SetClock => cases::set_clock(rt, line, bench.kept_of(command, line)?),
+        Command::SetState => cases::set_state(rt, line, bench.kept_of(command, line)?),
+        Command::SetGrid => cases::set_grid(rt, line, bench.kept_of(command, line)?),
         Command::Card => Ok(card::card(rt)?),
         Command::Say => Ok(say(rt, line)?),
         Command::Help => Ok(usage::help(rt)?),
@@ -70,18 +72,24 @@ fn answer<'l, R: Files + Print + Alloc>(
     rt: &R,
     line: Line<'l>,
     tool: &mut Tool,
+    lists: &mut KeptLists,
 ) -> Result<(), Trouble<'l>> {
     let name = line.word(0);
     if name.is_empty() {
         return Ok(());
     }
     let command = Command::from_word(name).ok_or(Trouble::NoCommand)?;
-    obey(rt, command, line, tool)
+    obey(rt, command, line, tool, lists)
 }
 
 // One line of the input.
-pub fn run<R: Files + Print + Alloc>(rt: &R, whole: &[u8], tool: &mut Tool) -> io::Result<()> {
-    match answer(rt, Line::new(whole), tool) {
+pub fn run<R: Files + Print + Alloc>(
+    rt: &R,
+    whole: &[u8],
+    tool: &mut Tool,
+    lists: &mut KeptLists,
+) -> io::Result<()> {
+    match answer(rt, Line::new(whole), tool, lists) {
         Ok(()) => Ok(()),
         Err(trouble) => trouble.tell(rt),
     }

@@ -1,6 +1,6 @@
 // A sketch into a file and back, as a block store.
 use bench_tool_sketches::line::Line;
-use bench_tool_sketches::slots::{LIMIT, Slot, View};
+use bench_tool_sketches::slots::{LIMIT, Place, View};
 use bench_tool_sketches::trouble::Trouble;
 use bench_tool_sketches::{fresh, verdicts};
 use cell::MicroParams;
@@ -44,7 +44,7 @@ fn size_in(store: &[u8]) -> usize {
 pub fn load<'l, R: Files + Print + Alloc>(
     rt: &R,
     line: Line<'l>,
-    slot: &mut Slot,
+    mut place: Place<'_>,
     room: &mut [u8],
 ) -> Result<(), Trouble<'l>> {
     let name = line.word(2);
@@ -53,9 +53,9 @@ pub fn load<'l, R: Files + Print + Alloc>(
         Unread::Failed => Trouble::Unreadable(name),
     })?;
     let size = size_in(store);
-    let answer = service::load(slot.room(size), store);
+    let answer = service::load(place.room(size), store);
     verdicts::accepted(answer.verdict)?;
-    slot.hold(answer.service, size);
+    place.hold(answer.service, size);
     let sketch = answer.service.sketch;
     let now = clock_calls::n(sketch.clock);
     println!(rt; "ok rows={} cols={} n={}", sketch.rows, sketch.cols, now.n)?;

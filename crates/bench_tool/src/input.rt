@@ -1,6 +1,7 @@
 // The lines of standard input, one command each.
 use crate::commands;
 use crate::commands::Tool;
+use crate::watching::KeptLists;
 use program_text::lines::{LineError, LineReader};
 use std::io;
 use std::io::Read;
@@ -18,12 +19,13 @@ pub fn all<R: Files + Print + Alloc>(
     input: &mut impl Read,
     buffer: &mut [u8],
     tool: &mut Tool,
+    lists: &mut KeptLists,
 ) -> Result<(), Stop> {
     let mut lines = LineReader::new(input, buffer);
     // Nothing says that the input ends, and a loop has to: so it counts to what no input reaches.
     for _ in 0..u64::MAX {
         match lines.next() {
-            Ok(Some(line)) => commands::run(rt, line, tool).map_err(Stop::Output)?,
+            Ok(Some(line)) => commands::run(rt, line, tool, lists).map_err(Stop::Output)?,
             Ok(None) => break,
             Err(LineError::TooLong) => too_long(rt).map_err(Stop::Output)?,
             Err(LineError::Input(error)) => return Err(Stop::Input(error)),

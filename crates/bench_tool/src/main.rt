@@ -14,12 +14,14 @@ use commands::Tool;
 use input::Stop;
 use program_text::print;
 use std::io;
+use watching::KeptLists;
 
 fn main(rt: HostRuntime) -> io::Result<()> {
     let mut tool = Tool::new(rt.alloc())?;
+    let mut lists = KeptLists::new();
     // A line has to fit this, its line end too.
     let mut lines = [0u8; 65536];
-    match input::all(&rt, &mut rt.stdin(), &mut lines, &mut tool) {
+    match input::all(&rt, &mut rt.stdin(), &mut lines, &mut tool, &mut lists) {
         Ok(()) => Ok(()),
         Err(Stop::Input(error)) => Err(error),
         Err(Stop::Output(error)) => {

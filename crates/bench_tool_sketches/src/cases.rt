@@ -9,7 +9,7 @@ use rounding::Rounding;
 
 pub fn set_clock<'l>(rt: &impl Print, line: Line<'l>, kept: Kept<'_>) -> Result<(), Trouble<'l>> {
     let value = line.number(2).ok_or(Trouble::Usage(Command::SetClock))?;
-    let sketch = &mut kept.service.sketch;
+    let sketch = &mut kept.slot.sketch;
     match &mut sketch.clock {
         SubWindowClock::CountBased { seen, .. } => *seen = value,
         SubWindowClock::TimeBased { now, .. } => *now = value,
@@ -20,7 +20,7 @@ pub fn set_clock<'l>(rt: &impl Print, line: Line<'l>, kept: Kept<'_>) -> Result<
 
 pub fn set_state<'l>(rt: &impl Print, line: Line<'l>, kept: Kept<'_>) -> Result<(), Trouble<'l>> {
     let state = line.number(2).ok_or(Trouble::Usage(Command::SetState))?;
-    kept.service.sketch.rounding = Rounding { state };
+    kept.slot.sketch.rounding = Rounding { state };
     println!(rt; "ok state=0x{state:016x}")?;
     Ok(())
 }

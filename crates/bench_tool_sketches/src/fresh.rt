@@ -1,6 +1,6 @@
 // A fresh sketch.
 use crate::line::Line;
-use crate::slots::Shelf;
+use crate::slots::Bench;
 use crate::trouble::Trouble;
 use crate::usage::Command;
 use crate::{slots, verdicts};
@@ -77,9 +77,9 @@ impl Settings {
     }
 }
 
-pub fn new<'l>(rt: &impl Print, line: Line<'l>, shelf: &mut Shelf) -> Result<(), Trouble<'l>> {
+pub fn new<'l>(rt: &impl Print, line: Line<'l>, bench: &mut Bench) -> Result<(), Trouble<'l>> {
     let usage = Trouble::Usage(Command::New);
-    let slot = shelf.slot(line.name(1).ok_or(usage)?);
+    let mut place = bench.place(line.name(1).ok_or(usage)?);
     let settings = Settings::of(line).ok_or(usage)?;
     // A fresh start on no bytes: 6 stands for settings that are good.
     let judged = settings.start(&mut []);
@@ -90,9 +90,9 @@ pub fn new<'l>(rt: &impl Print, line: Line<'l>, shelf: &mut Shelf) -> Result<(),
     if size > slots::LIMIT {
         return Err(Trouble::LargeGrid(size));
     }
-    let answer = settings.start(slot.room(size));
+    let answer = settings.start(place.room(size));
     verdicts::accepted(answer.verdict)?;
-    slot.hold(answer.service, size);
+    place.hold(answer.service, size);
     println!(rt; "ok depth={}", depth(settings.params))?;
     Ok(())
 }

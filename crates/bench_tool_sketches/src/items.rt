@@ -11,6 +11,8 @@ use std::io;
 // A run of the same call.
 #[derive(Clone, Copy)]
 struct Run {
+    // The sketch after the last call.
+    sketch: MicroCm,
     // The verdict that ended it, if a call was refused.
     refused: Option<Verdict>,
     // The draws of all calls made, and the units that they lost.
@@ -21,19 +23,23 @@ struct Run {
 
 // The call as often as asked, or until it is refused.
 fn repeated<F: FnMut(MicroCm, &mut [u8]) -> SketchAnswer>(
-    kept: &mut Kept<'_>,
+    sketch: MicroCm,
+    grid: &mut [u8],
     times: u64,
     mut call: F,
 ) -> Run
     requires { F.IsAlwaysCallable call }
 {
+    // Written into its slot once, behind the loop: what each turn writes there the next one has to read back.
+    let mut sketch = sketch;
     let mut draws = 0u64;
     let mut lost = 0u64;
     for made in 0..times {
-        let answer = call(kept.service.sketch, kept.grid);
-        kept.service.sketch = answer.sketch;
+        let answer = call(sketch, &mut grid[..]);
+        sketch = answer.sketch;
         if !answer.verdict.accepted() {
             return Run {
+                sketch,
                 refused: Some(answer.verdict),
                 draws,
                 lost,
@@ -44,6 +50,7 @@ fn repeated<F: FnMut(MicroCm, &mut [u8]) -> SketchAnswer>(
         lost = lost.wrapping_add(answer.lost);
     }
     Run {
+        sketch,
         refused: None,
         draws,
         lost,
@@ -56,9 +63,9 @@ pub fn tell_counted(rt: &impl Print, sketch: MicroCm, draws: u64, lost: u64) -> 
     println!(rt; "ok n={} draws={draws} lost={lost}", now.n)
 }
 
-fn tell(rt: &impl Print, sketch: MicroCm, run: Run, times: u64) -> io::Result<()> {
+fn tell(rt: &impl Print, run: Run, times: u64) -> io::Result<()> {
     let Some(verdict) = run.refused else {
-        return tell_counted(rt, sketch, run.draws, run.lost);
+        return tell_counted(rt, run.sketch, run.draws, run.lost);
     };
     print!(rt; "{}", Told(verdict))?;
     if times > 1 {
@@ -73,14 +80,16 @@ fn tell(rt: &impl Print, sketch: MicroCm, run: Run, times: u64) -> io::Result<()
 // Makes the calls, and tells what came of them.
 fn count<F: FnMut(MicroCm, &mut [u8]) -> SketchAnswer>(
     rt: &impl Print,
-    mut kept: Kept<'_>,
+    kept: Kept<'_>,
     times: u64,
     call: F,
 ) -> io::Result<()>
     requires { F.IsAlwaysCallable call }
 {
-    let run = repeated(&mut kept, times, call);
-    tell(rt, kept.service.sketch, run, times)
+    let Kept { slot, grid } = kept;
+    let run = repeated(slot.sketch, grid, times, call);
+    slot.sketch = run.sketch;
+    tell(rt, run, times)
 }
 
 pub fn update<'l>(rt: &impl Print, line: Line<'l>, kept: Kept<'_>) -> Result<(), Trouble<'l>> {

@@ -1,6 +1,6 @@
 // One sketch added to another.
 use crate::line::Line;
-use crate::slots::Shelf;
+use crate::slots::Bench;
 use crate::trouble::Trouble;
 use crate::usage::Command;
 use crate::{items, verdicts};
@@ -9,19 +9,19 @@ use crate::{items, verdicts};
 pub fn merge<'l>(
     rt: &impl Print,
     line: Line<'l>,
-    shelf: &mut Shelf,
+    bench: &mut Bench,
     room: &mut [u8],
 ) -> Result<(), Trouble<'l>> {
-    shelf.kept_of(Command::Merge, line)?;
-    let its = shelf.other(line)?;
+    bench.kept_of(Command::Merge, line)?;
+    let its = bench.other(line)?;
     let length = its.grid.len().min(room.len());
     let other = its.sketch;
     let grid = &mut room[..length];
     grid.copy_from_slice(&its.grid[..length]);
-    let kept = shelf.kept_of(Command::Merge, line)?;
-    let answer = sketch_merging::merge(kept.service.sketch, kept.grid, other, &grid[..]);
+    let kept = bench.kept_of(Command::Merge, line)?;
+    let answer = sketch_merging::merge(kept.slot.sketch, kept.grid, other, &grid[..]);
     verdicts::accepted(answer.verdict)?;
-    kept.service.sketch = answer.sketch;
+    kept.slot.sketch = answer.sketch;
     items::tell_counted(rt, answer.sketch, answer.draws, answer.lost)?;
     Ok(())
 }

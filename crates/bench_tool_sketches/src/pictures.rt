@@ -9,7 +9,8 @@ use cell::MicroParams;
 use program_text::floats;
 use program_text::print::HexBytes;
 use refusal::Verdict;
-use std::io;
+use std::fmt::Display;
+use std::{fmt, io};
 
 // A sound cell, its zoom and its shutter, at the sub-window n.
 #[derive(Clone, Copy)]
@@ -71,11 +72,8 @@ impl<'a> Picture<'a> {
 
 // A mark for each 8 of a pixel, and one for what is left of it.
 fn bar(rt: &impl Print, pixel: u8) -> io::Result<()> {
-    print!(rt; " |")?;
-    for _ in 0..pixel.div_ceil(8) {
-        print!(rt; "#")?;
-    }
-    println!(rt)
+    let marks = usize::from(pixel.div_ceil(8));
+    println!(rt; " |{:#<marks$}", "")
 }
 
 fn sub_window(rt: &impl Print, cell: Picture<'_>, n: u64) -> io::Result<()> {
@@ -206,7 +204,7 @@ pub fn one_cell<'l>(rt: &impl Print, line: Line<'l>, view: View<'_>) -> Result<(
 }
 
 // What a cell's place on the map shows; of several cells the highest is shown.
-#[derive(Clone, Copy, PartialEq, Eq, PartialOrd, Ord)]
+#[derive(Clone, Copy)]
 pub enum Mark {
     Zoom(u8),
     Unsound,
@@ -222,6 +220,8 @@ impl Mark {
     }
 }
 
+// Always inlined, as `highest` is: the loop over a row's cells has no call then.
+#[inline(always)]
 pub fn mark_at(view: View<'_>, row: usize, col: usize) -> Mark {
     let View { sketch, grid } = view;
     let cell = sketch_queries::bucket_slice(sketch, row, col, grid);
@@ -232,23 +232,41 @@ pub fn mark_at(view: View<'_>, row: usize, col: usize) -> Mark {
     Mark::Unsound
 }
 
-// The highest mark of the columns of a group.
+// The highest mark of the columns of a group. No zoom is above an unsound cell.
+#[inline(always)]
 fn highest(view: View<'_>, row: usize, from: usize, group: usize) -> Mark {
-    let mut mark = Mark::Zoom(0);
+    let mut highest = 0;
     for col in from..from.saturating_add(group) {
-        mark = mark.max(mark_at(view, row, col));
+        match mark_at(view, row, col) {
+            Mark::Zoom(zoom) => highest = highest.max(zoom),
+            Mark::Unsound => return Mark::Unsound,
+        }
     }
-    mark
+    Mark::Zoom(highest)
 }
 
 // A row of the map has at most 64 marks.
-fn map_row(rt: &impl Print, view: View<'_>, row: usize, group: usize) -> io::Result<()> {
-    print!(rt; "  row {row} |")?;
-    for place in 0..view.sketch.cols.min(64) {
-        let mark = highest(view, row, place.saturating_mul(group), group);
-        print!(rt; "{}", mark.glyph())?;
+#[derive(Clone, Copy)]
+struct Row<'a> {
+    view: View<'a>,
+    row: usize,
+    group: usize,
+}
+
+impl Display for Row<'_> {
+    fn fmt<W: fmt::Write>(&self, f: &mut fmt::Formatter<W>) -> fmt::Result {
+        let Row { view, row, group } = *self;
+        write!(f, "  row {row} |")?;
+        for place in 0..view.sketch.cols.min(64) {
+            let mark = highest(view, row, place.saturating_mul(group), group);
+            f.write_char(mark.glyph())?;
+        }
+        f.write_str("|")
     }
-    println!(rt; "|")
+}
+
+fn map_row(rt: &impl Print, view: View<'_>, row: usize, group: usize) -> io::Result<()> {
+    println!(rt; "{}", Row { view, row, group })
 }
 
 pub fn map<'a>(rt: &impl Print, view: View<'_>) -> Result<(), Trouble<'a>> {

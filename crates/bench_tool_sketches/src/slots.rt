@@ -1,7 +1,10 @@
-// The sketches a to d, and the room that each has for its grid and for the columns and limits of its watched codes.
+// The sketches a to d, and the room that each has for its grid.
+ghost use Rattle.std.specs.Prelude.{◌≡◌, IfOk};
+
 use crate::line::Line;
 use crate::trouble::Trouble;
 use crate::usage::Command;
+use codes::Watch;
 use service::Service;
 use sketch::MicroCm;
 use std::alloc::{AllocError, Global};
@@ -29,28 +32,56 @@ impl Name {
     }
 }
 
-// A sketch and its watched codes, and how many bytes its grid has.
+// A sketch, its watched codes and the bytes of its grid.
 #[derive(Clone, Copy)]
-struct Held {
-    service: Service,
-    size: usize,
-}
-
-#[derive(Drop)]
 pub struct Slot {
-    held: Option<Held>,
-    grid: Vec<u8>,
-    columns: [u32; 8192],
-    limits: [u64; 64],
+    pub sketch: MicroCm,
+    pub watch: Watch,
+    pub size: usize,
 }
 
-// A sketch that is there, with all that its calls are lent.
+impl Slot {
+    // What a fresh start or a load gave, over a grid of so many bytes.
+    pub fn of(service: Service, size: usize) -> Slot
+        ensures { result ≡ record { sketch = service.sketch; watch = service.watch; size = size } }
+    {
+        let Service { sketch, watch } = service;
+        Slot {
+            sketch,
+            watch,
+            size,
+        }
+    }
+}
+
+// What stands at a to d.
+#[derive(Clone, Copy)]
+pub struct Shelf {
+    a: Option<Slot>,
+    b: Option<Slot>,
+    c: Option<Slot>,
+    d: Option<Slot>,
+}
+
+impl Shelf {
+    // No sketch stands there yet.
+    pub fn new() -> Shelf
+        ensures { result ≡ record { a = None; b = None; c = None; d = None } }
+    {
+        Shelf {
+            a: None,
+            b: None,
+            c: None,
+            d: None,
+        }
+    }
+}
+
+// A sketch that is there, and its grid.
 #[derive(Drop)]
 pub struct Kept<'a> {
-    pub service: &'a mut Service,
+    pub slot: &'a mut Slot,
     pub grid: &'a mut [u8],
-    pub columns: &'a mut [u32; 8192],
-    pub limits: &'a mut [u64; 64],
 }
 
 // A sketch that is only looked at.
@@ -62,9 +93,9 @@ pub struct View<'a> {
 
 impl<'a> Kept<'a> {
     fn view(self) -> View<'a> {
-        let Kept { service, grid, .. } = self;
+        let Kept { slot, grid } = self;
         View {
-            sketch: service.sketch,
+            sketch: slot.sketch,
             grid,
         }
     }
@@ -76,78 +107,98 @@ fn first(room: &mut [u8], size: usize) -> &mut [u8] {
     &mut room[..size]
 }
 
-impl Slot {
-    fn new(alloc: Global) -> Result<Slot, AllocError> {
-        Ok(Slot {
-            held: None,
-            grid: vec![in alloc; 0u8; LIMIT]?,
-            columns: [0; 8192],
-            limits: [0; 64],
-        })
-    }
+// A place, whether a sketch was made there or not, and its grid.
+#[derive(Drop)]
+pub struct Place<'a> {
+    slot: &'a mut Option<Slot>,
+    room: &'a mut Vec<u8>,
+}
 
+impl<'a> Place<'a> {
     // The room for a grid of so many bytes.
     pub fn room(&mut self, size: usize) -> &mut [u8] {
-        first(&mut self.grid, size)
+        first(self.room, size)
     }
 
     // Holds what a fresh start or a load gave over that room.
-    pub fn hold(&mut self, service: Service, size: usize) {
-        self.held = Some(Held { service, size });
+    pub fn hold(self, service: Service, size: usize) {
+        *self.slot = Some(Slot::of(service, size));
     }
 
     // The sketch, if one was made.
-    fn kept(&mut self) -> Option<Kept<'_>> {
-        match &mut self.held {
+    fn kept(self) -> Option<Kept<'a>> {
+        let Place { slot, room } = self;
+        match slot {
             None => None,
-            Some(held) => {
-                let size = held.size;
+            Some(slot) => {
+                let size = slot.size;
                 Some(Kept {
-                    service: &mut held.service,
-                    grid: first(&mut self.grid, size),
-                    columns: &mut self.columns,
-                    limits: &mut self.limits,
+                    slot,
+                    grid: first(room, size),
                 })
             }
         }
     }
 }
 
+// The shelf, and the room for the grid of each place on it.
 #[derive(Drop)]
-pub struct Shelf {
-    a: Slot,
-    b: Slot,
-    c: Slot,
-    d: Slot,
+pub struct Bench {
+    shelf: Shelf,
+    a: Vec<u8>,
+    b: Vec<u8>,
+    c: Vec<u8>,
+    d: Vec<u8>,
 }
 
-impl Shelf {
-    pub fn new(alloc: Global) -> Result<Shelf, AllocError> {
-        Ok(Shelf {
-            a: Slot::new(alloc)?,
-            b: Slot::new(alloc)?,
-            c: Slot::new(alloc)?,
-            d: Slot::new(alloc)?,
+fn room(alloc: Global) -> Result<Vec<u8>, AllocError> {
+    vec![in alloc; 0u8; LIMIT]
+}
+
+impl Bench {
+    // No sketch stands on it yet.
+    pub fn new(alloc: Global) -> Result<Bench, AllocError>
+        ensures { IfOk result (λ bench. bench.shelf ≡ record { a = None; b = None; c = None; d = None }) }
+    {
+        Ok(Bench {
+            shelf: Shelf::new(),
+            a: room(alloc)?,
+            b: room(alloc)?,
+            c: room(alloc)?,
+            d: room(alloc)?,
         })
     }
 
-    pub(crate) fn slot(&mut self, name: Name) -> &mut Slot {
+    pub(crate) fn place(&mut self, name: Name) -> Place<'_> {
+        let shelf = &mut self.shelf;
         match name {
-            Name::A => &mut self.a,
-            Name::B => &mut self.b,
-            Name::C => &mut self.c,
-            Name::D => &mut self.d,
+            Name::A => Place {
+                slot: &mut shelf.a,
+                room: &mut self.a,
+            },
+            Name::B => Place {
+                slot: &mut shelf.b,
+                room: &mut self.b,
+            },
+            Name::C => Place {
+                slot: &mut shelf.c,
+                room: &mut self.c,
+            },
+            Name::D => Place {
+                slot: &mut shelf.d,
+                room: &mut self.d,
+            },
         }
     }
 
     // The place that the line names, if it has the words that the command takes.
-    pub fn slot_of<'l>(
+    pub fn place_of<'l>(
         &mut self,
         command: Command,
         line: Line<'l>,
-    ) -> Result<&mut Slot, Trouble<'l>> {
+    ) -> Result<Place<'_>, Trouble<'l>> {
         match line.name(1) {
-            Some(name) if command.takes(line.count()) => Ok(self.slot(name)),
+            Some(name) if command.takes(line.count()) => Ok(self.place(name)),
             _ => Err(Trouble::Usage(command)),
         }
     }
@@ -158,8 +209,8 @@ impl Shelf {
         command: Command,
         line: Line<'l>,
     ) -> Result<Kept<'_>, Trouble<'l>> {
-        let slot = self.slot_of(command, line)?;
-        slot.kept().ok_or(Trouble::NoSketch(line.word(1)))
+        let place = self.place_of(command, line)?;
+        place.kept().ok_or(Trouble::NoSketch(line.word(1)))
     }
 
     // The same, to be looked at.
@@ -176,7 +227,7 @@ impl Shelf {
     pub(crate) fn other<'l>(&mut self, line: Line<'l>) -> Result<View<'_>, Trouble<'l>> {
         let trouble = Trouble::NoSketch(line.word(2));
         let name = line.name(2).ok_or(trouble)?;
-        let kept = self.slot(name).kept().ok_or(trouble)?;
+        let kept = self.place(name).kept().ok_or(trouble)?;
         Ok(kept.view())
     }
 }
