@@ -34,6 +34,9 @@ module _ (c m z grown k : ℕ) (w : Growing c m z grown k) where
   pub growing_on : k < z → grown * c ≤ 255 → Growing c m z (grown * c) (k + 1)
   growing_on l h = record { found = rw (add-one k) next_is; fits = h; low = omega arith }
 
+  pub growing_by : (b : ℕ) → b ≡ c → k < z → grown * b ≤ 255 → Growing c m z (grown * b) (k + 1)
+  growing_by b e l h = rw e (growing_on l (rw e at h))
+
   -- a base of 0 would have grown nothing
   some : 255 < grown * c → 0 < c
   some h = lt_of_not-le (λ l.

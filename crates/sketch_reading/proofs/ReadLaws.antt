@@ -1,5 +1,5 @@
 -- The ways through the calls that read a key: each way out is what its definition gives there. Assumes nothing.
-use Prim.Native.Nat.{ℕ}
+use Prim.Native.Nat.{ℕ, ◌/◌}
 use mathlib.Core.Path.{◌≡◌, refl, sym, ap, ◌∙◌}
 use mathlib.Core.Bool.{Bool, true, false, not, ◌&&◌}
 use mathlib.Core.List.{List}
@@ -14,7 +14,7 @@ use Rattle.refusal.proofs.GateLaws.{gate_passed}
 use Rattle.clock.specs.Clock.{fraction_of}
 use Rattle.sketch.specs.declared.MicroCm.{MicroCm}
 use Rattle.sketch.specs.declared.ReadingAnswer.{ReadingAnswer}
-use Rattle.sketch.specs.Figures.{under_of, over_of, mean_of, has_oldest, one_reading}
+use Rattle.sketch.specs.Figures.{under_of, over_of, begun_of, mean_of, has_oldest, one_reading}
 use Rattle.sketch.specs.Refusals.{key_fits, refuse_sketch, refuse_key, read_verdict, read_with_verdict, no_reading, reading_answer, read_call, read_with_call, mean_call}
 use Rattle.sketch.specs.Workers.{Ready, Readable}
 use Rattle.sketch.proofs.ReadyLaws.{keyed_ready}
@@ -47,6 +47,12 @@ module _ (k : MicroCm) (key g : List ℕ) where
 
   readable_with : (fraction : Float) → read_with_verdict k key fraction g ≡ Accepted → Readable k key g
   readable_with fraction = readable_then (fraction_then k key g fraction) (λ e. (not_refused 13 (has_oldest k && not (in_unit fraction)) (cells k key g) e).1)
+
+-- THE MEAN
+-- What a mean is made of. Its function proves without this law, which docs/landings/T-08.md names.
+pub mean_made : (k : MicroCm) (key g : List ℕ) (under begun mean : ℕ) → under ≡ under_of k g key → begun ≡ begun_of k → mean ≡ under / begun
+    → mean ≡ mean_of k g key
+mean_made k key g under begun mean eu eb em = em ∙ rw (eu, eb) refl
 
 -- THE ANSWERS
 module _ (k : MicroCm) (key g : List ℕ) (v : Verdict) (ok : Bool) (asked : ok ≡ is_accepted v) where
