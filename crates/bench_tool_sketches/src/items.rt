@@ -92,17 +92,23 @@ fn count<F: FnMut(MicroCm, &mut [u8]) -> SketchAnswer>(
     tell(rt, run, times)
 }
 
+// An item as often as asked. `update` and `updates` go through one closure: the core's call has one caller here, and so is
+// compiled into the loop.
+fn items(rt: &impl Print, kept: Kept<'_>, times: u64, key: &[u32]) -> io::Result<()> {
+    count(
+        rt,
+        kept,
+        times,
+        |sketch, grid| sketch_counting::update(sketch, key, grid),
+    )
+}
+
 pub fn update<'l>(rt: &impl Print, line: Line<'l>, kept: Kept<'_>) -> Result<(), Trouble<'l>> {
     let mut room = [0; ROWS];
     let key = line
         .key(2, &mut room)
         .ok_or(Trouble::Usage(Command::Update))?;
-    count(
-        rt,
-        kept,
-        1,
-        |sketch, grid| sketch_counting::update(sketch, key, grid),
-    )?;
+    items(rt, kept, 1, key)?;
     Ok(())
 }
 
@@ -115,12 +121,7 @@ pub fn updates<'l>(rt: &impl Print, line: Line<'l>, kept: Kept<'_>) -> Result<()
     }
     let mut room = [0; ROWS];
     let key = line.key(3, &mut room).ok_or(usage)?;
-    count(
-        rt,
-        kept,
-        times,
-        |sketch, grid| sketch_counting::update(sketch, key, grid),
-    )?;
+    items(rt, kept, times, key)?;
     Ok(())
 }
 
