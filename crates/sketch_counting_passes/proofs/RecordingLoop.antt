@@ -1,5 +1,5 @@
 -- An item goes from row to row: what is left to do from here gives the whole, and the cells of the rows to come are as they were. Assumes nothing.
-use Prim.Native.Nat.{ℕ, suc, ◌+◌, ◌*◌, ◌^◌, ◌≤◌, ◌<◌}
+use Prim.Native.Nat.{ℕ, suc, ◌+◌, ◌*◌, ◌≤◌, ◌<◌}
 use mathlib.Core.Path.{◌≡◌, refl, sym, ap, ◌∙◌}
 use mathlib.Core.Bool.{true}
 use mathlib.Core.List.{List, [], ◌∷◌}
@@ -85,9 +85,6 @@ module _ (k : MicroCm) (n : ℕ) (key g₀ : List ℕ) (σ₀ : ℕ) where
       pub row_light : r.lost ≤ 1
       row_light = omega (arith, ap (λ (s : Step). s.lost) es, at_light k fit n index g σ room inside)
 
-      pub loss_fits : lost + r.lost < 2 ^ 32
-      loss_fits = omega (arith, w.light, row_light, more, key_rows k key fits, w.ready.rows_high)
-
       row_done : r.draws ≤ 4098 → Recording ys r.state (drawn + r.draws) (lost + r.lost) (row + 1)
       row_done few = record {
         done = w.done ∙ ap (λ (js : List ℕ). since drawn lost (insert_each k n js g σ)) (row_cons k key row more) ∙ next;
@@ -109,12 +106,12 @@ module _ (k : MicroCm) (n : ℕ) (key g₀ : List ℕ) (σ₀ : ℕ) where
       pub recording_on : (d o : ℕ) → d ≡ r.draws → o ≡ r.lost → r.draws ≤ 4098 → Recording ys r.state (drawn + d) (lost + o) (row + 1)
       recording_on d o ed eo few = rw (ed, eo) (row_done few)
 
-    pub recording_end : (o : ℕ) → o ≡ lost → length key ≤ row → pass_of g (passed σ drawn o) ≡ insert_each k n (key_cells k 0 key) g₀ σ₀
+    pub recording_end : (r : Passed) → length key ≤ row → r ≡ passed σ drawn lost → pass_of g r ≡ insert_each k n (key_cells k 0 key) g₀ σ₀
     unfolding key_cells insert_each
-    recording_end o eo h = rw eo (sym (w.done ∙ rw (drop_of_length-le key h) (simp add-zero)))
+    recording_end r h e = rw e (sym (w.done ∙ rw (drop_of_length-le key h) (simp add-zero)))
 
     pub drawn_few : key_fits k key ≡ true → drawn ≤ 128 * 4098
     drawn_few fits = omega (arith, w.few, w.most, key_rows k key fits, w.ready.rows_high)
 
-    pub lost_few : key_fits k key ≡ true → (o : ℕ) → o ≡ lost → o ≤ 128
-    lost_few fits o eo = omega (arith, w.light, w.most, key_rows k key fits, w.ready.rows_high)
+    pub lost_few : key_fits k key ≡ true → lost ≤ 128
+    lost_few fits = omega (arith, w.light, w.most, key_rows k key fits, w.ready.rows_high)

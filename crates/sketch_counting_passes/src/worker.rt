@@ -39,19 +39,18 @@ pub fn insert_each(sketch: MicroCm, key: &[u32], grid: &mut [u8], n: u64, state:
     let slot = cell_layout::fields::slot(sketch.params.t, n);
     let mut after = state;
     let mut draws: u64 = 0;
-    // Of 32 bits, as a cell's is, and as where cells cross.
-    let mut lost: u32 = 0;
+    let mut lost: u64 = 0;
     for row in 0..key.len() {
         let index = grid::key_cell(sketch, &key[..], row);
         let drawn = insert_at(sketch, grid, index, n, slot, after);
         after = drawn.state;
         draws += u64::from(drawn.draws);
-        lost += drawn.lost;
+        lost += u64::from(drawn.lost);
     }
     Passed {
         state: after,
         draws,
-        lost: u64::from(lost),
+        lost,
     }
 }
 

@@ -17,25 +17,10 @@ use sketch::MicroCm;
 fn column_bits(cols: usize) -> usize
     ensures { (result ≡ bits_up_to 16 cols) × (result ≤ 16) }
 {
-    // By cases: as `is_power_of_two` and `ilog2` an item of one row missed its aim of speed (docs/LOOK-BACK.md, d4).
-    match cols {
-        2 => 1,
-        4 => 2,
-        8 => 3,
-        16 => 4,
-        32 => 5,
-        64 => 6,
-        128 => 7,
-        256 => 8,
-        512 => 9,
-        1024 => 10,
-        2048 => 11,
-        4096 => 12,
-        8192 => 13,
-        16384 => 14,
-        32768 => 15,
-        65536 => 16,
-        _ => 0,
+    if cols.is_power_of_two() && cols <= 65536 {
+        cols.ilog2() as usize
+    } else {
+        0
     }
 }
 
@@ -98,13 +83,7 @@ pub fn sketch(sketch: MicroCm, grid: &[u8]) -> Verdict
 pub fn all_below(key: &[u32], cols: usize) -> bool
     ensures { result ≡ all_below cols key.now }
 {
-    // A loop, and no `all`, for the same reason as the cases of `column_bits`.
-    for row in 0..key.len() {
-        if key[row] as usize >= cols {
-            return false;
-        }
-    }
-    true
+    key.iter().all(|col| (*col as usize) < cols)
 }
 
 fn key_fits(sketch: MicroCm, key: &[u32]) -> bool

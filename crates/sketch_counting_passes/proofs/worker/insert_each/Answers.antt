@@ -1,4 +1,4 @@
-use Rattle.sketch_counting_passes.proofs.RecordingLoop.{row_sound, recording_on, loss_fits}
+use Rattle.sketch_counting_passes.proofs.RecordingLoop.{row_sound, recording_on}
 use Rattle.sketch_counting_passes.proofs.RecordingLoop.{recording_end, drawn_few, lost_few}
 use Rattle.sketch.proofs.AddressLaws.{key_row}
 use borrow.Author.Rules.{rules}
@@ -9,9 +9,6 @@ key_cell-index-requires c = (search (key_row, rules), search rules, search rules
 
 pub insert_at-drawn-requires-clause-index_value : goal.insert_at-drawn-requires-clause-index_value
 insert_at-drawn-requires-clause-index_value c = search (row_sound, rules)
-
-pub overflow_add-lost : goal.overflow_add-lost
-overflow_add-lost c = record { fits = search (loss_fits, rules) }
 
 pub loop-row-preserved : goal.loop-row-preserved
 loop-row-preserved c = search (recording_on, rules)

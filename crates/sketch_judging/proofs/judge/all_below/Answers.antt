@@ -1,15 +1,14 @@
-use Rattle.sketch.proofs.SettingsCases.{rows_begin, rows_found, rows_on, rows_end}
+-- `all_below`: what the chain asks of each column is the definition's test. Assumes nothing.
+use Rattle.std.proofs.lemmas.Iterator.{YieldsList-from_slice}
+use Rattle.std.proofs.lemmas.Iterator.Search.{all_from_yields_List}
+use Rattle.sketch_judging.proofs.ShapeLaws.{below_all}
+use mathlib.Core.Path.{◌∙◌}
+use lib.Dec.{ltb}
 use borrow.Author.Rules.{rules}
+use borrow.Author.Tests.{tests}
 use Rattle.sketch_judging.proofs.judge.all_below.Goals as goal
 
-pub loop-row-init : goal.loop-row-init
-loop-row-init c = search (rows_begin, rules)
-
-pub returns-then-key-row : goal.returns-then-key-row
-returns-then-key-row c = search (rows_found, rules)
-
-pub loop-row-preserved : goal.loop-row-preserved
-loop-row-preserved c = search (rows_on, rules)
-
 pub returns : goal.returns
-returns c = search (rows_end, rules)
+returns c =
+    all_from_yields_List (λ x. ltb x c.args.cols) _ _ _ c.all.ensures.ran (YieldsList-from_slice c.args.key.now cc) (λ x b q k. search (rules, tests))
+    ∙ below_all _ _
