@@ -1,5 +1,5 @@
 // Which of the watched codes have newly reached their limit.
-use crate::watching::Lists;
+use bench_tool_sketches::kept_lists::Lists;
 use bench_tool_sketches::line::Line;
 use bench_tool_sketches::slots::{Kept, Slot};
 use bench_tool_sketches::trouble::Trouble;

@@ -1,6 +1,6 @@
 // A line: which command it is, whether it has the words and the sketch that the command needs, and the command.
-use crate::watching::KeptLists;
 use crate::{asking, files, watching};
+use bench_tool_sketches::kept_lists::KeptLists;
 use bench_tool_sketches::line::Line;
 use bench_tool_sketches::slots::Bench;
 use bench_tool_sketches::trouble::Trouble;

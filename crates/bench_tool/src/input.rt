@@ -1,7 +1,7 @@
 // The lines of standard input, one command each.
 use crate::commands;
 use crate::commands::Tool;
-use crate::watching::KeptLists;
+use bench_tool_sketches::kept_lists::KeptLists;
 use program_text::lines::{LineError, LineReader};
 use std::io;
 use std::io::Read;

@@ -10,11 +10,11 @@ mod files;
 mod input;
 mod watching;
 
+use bench_tool_sketches::kept_lists::KeptLists;
 use commands::Tool;
 use input::Stop;
 use program_text::print;
 use std::io;
-use watching::KeptLists;
 
 fn main(rt: HostRuntime) -> io::Result<()> {
     let mut tool = Tool::new(rt.alloc())?;

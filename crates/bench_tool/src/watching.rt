@@ -1,56 +1,10 @@
 // A list of codes to watch is set.
+use bench_tool_sketches::kept_lists::Lists;
 use bench_tool_sketches::line::Line;
 use bench_tool_sketches::slots::{Kept, Slot};
 use bench_tool_sketches::trouble::Trouble;
 use bench_tool_sketches::usage::Command;
 use bench_tool_sketches::verdicts;
-
-// The columns and limits of the codes that a place watches, of fixed size, as the core keeps them.
-#[derive(Clone, Copy)]
-pub(crate) struct Lists {
-    pub(crate) columns: [u32; 8192],
-    pub(crate) limits: [u64; 64],
-}
-
-impl Lists {
-    fn new() -> Lists {
-        Lists {
-            columns: [0; 8192],
-            limits: [0; 64],
-        }
-    }
-}
-
-// Those of a to d. They stand in main and are lent: a tool that held these 130 KiB would be copied whole, from frame to frame, on
-// its way there.
-#[derive(Clone, Copy)]
-pub(crate) struct KeptLists {
-    a: Lists,
-    b: Lists,
-    c: Lists,
-    d: Lists,
-}
-
-impl KeptLists {
-    pub(crate) fn new() -> KeptLists {
-        KeptLists {
-            a: Lists::new(),
-            b: Lists::new(),
-            c: Lists::new(),
-            d: Lists::new(),
-        }
-    }
-
-    // Those of the place that the line names. A line whose place has no sketch does not come here, so that `_` is a.
-    pub(crate) fn of(&mut self, line: Line<'_>) -> &mut Lists {
-        match line.word(1) {
-            b"b" => &mut self.b,
-            b"c" => &mut self.c,
-            b"d" => &mut self.d,
-            _ => &mut self.a,
-        }
-    }
-}
 
 // The two lists have room for any line: a column takes two bytes of it, as a comma or a colon follows, and a code four.
 pub fn watch<'l>(

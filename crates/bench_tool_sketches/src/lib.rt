@@ -6,12 +6,15 @@ pub mod card;
 pub mod cases;
 pub mod fresh;
 pub mod items;
+pub mod kept_lists;
 pub mod line;
 pub mod merge;
 mod pictures;
 pub mod queries;
 mod readings;
 pub mod slots;
+#[cfg(test)]
+mod tests;
 pub mod trouble;
 pub mod usage;
 pub mod verdicts;

@@ -1,5 +1,5 @@
 // The sketches a to d, and the room that each has for its grid.
-ghost use Rattle.std.specs.Prelude.{◌≡◌, IfOk};
+ghost use Rattle.std.specs.Prelude.{◌≡◌, length, min, take, IfOk};
 
 use crate::line::Line;
 use crate::trouble::Trouble;
@@ -102,7 +102,9 @@ impl<'a> Kept<'a> {
 }
 
 // The first bytes of a room.
-fn first(room: &mut [u8], size: usize) -> &mut [u8] {
+fn first(room: &mut [u8], size: usize) -> &mut [u8]
+    ensures { result.now ≡ take (min size (length room.old)) room.old }
+{
     let size = size.min(room.len());
     &mut room[..size]
 }
@@ -120,8 +122,20 @@ impl<'a> Place<'a> {
         first(self.room, size)
     }
 
-    // Holds what a fresh start or a load gave over that room.
-    pub fn hold(self, service: Service, size: usize) {
+    // The same, lent for as long as the bench is.
+    pub fn into_room(self, size: usize) -> &'a mut [u8]
+        ensures { let all = self.entry.room.now.items in result.now ≡ take (min size (length all)) all }
+    {
+        let Place { room, .. } = self;
+        first(room, size)
+    }
+
+    // Holds what a fresh start or a load gave over that room, in place of what was held before.
+    pub fn hold(&mut self, service: Service, size: usize)
+        ensures held { self.new.slot.now ≡ Some (record { sketch = service.sketch; watch = service.watch; size = size }) }
+        ensures room { self.new.room.now ≡ self.old.room.now }
+        ensures same_place { (self.new.slot.ghost_name ≡ self.old.slot.ghost_name) × (self.new.room.ghost_name ≡ self.old.room.ghost_name) }
+    {
         *self.slot = Some(Slot::of(service, size));
     }
 

@@ -152,14 +152,10 @@ module _ (store : List ℕ) where
       from_part : length (part place (place + n - place) store) ≡ n
       from_part = rw (add-sub_cancel_left place n) (part_length place n store out_place)
 
-      pub out_on : (y : List ℕ) → y ≡ take (length (part i (i + n - i) out)) (part place (place + n - place) store)
-          → Writing target out₀ (take i out ++ (y ++ drop (i + n - i) (drop i out))) (i + n)
+      pub out_on : (y : List ℕ) → y ≡ part place (place + n - place) store → Writing target out₀ (take i out ++ (y ++ drop (i + n - i) (drop i out))) (i + n)
       out_on y ey =
-          let whole : y ≡ part place (place + n - place) store =
-          ey ∙ take_all (length (part i (i + n - i) out)) (part place (place + n - place) store) (omega (arith, out_part, from_part))
-          in
-          let copied : y ≡ part place n store = whole ∙ rw (add-sub_cancel_left place n) in
-          let long : length y ≡ n = ap length whole ∙ from_part in
+          let copied : y ≡ part place n store = ey ∙ rw (add-sub_cancel_left place n) in
+          let long : length y ≡ n = ap length ey ∙ from_part in
           let e : part i n target ≡ part (at + i) n (carried store) = part_part at i n (length out₀) (carried store) (omega (arith, out_room, w.same)) in
           let same : part i n target ≡ y = e ∙ piece_is (at + i) n piece.some piece.inside here ∙ sym copied in
           rw (add-sub_cancel_left i n)
@@ -168,6 +164,12 @@ module _ (store : List ℕ) where
             same = splice_length i n y out out_room long ∙ w.same;
             long = w.long;
           })
+
+      -- the same of what `copy` wrote: as much of that as there is room for, which is all of it
+      pub out_copied : (y : List ℕ) → y ≡ take (length (part i (i + n - i) out)) (part place (place + n - place) store)
+          → Writing target out₀ (take i out ++ (y ++ drop (i + n - i) (drop i out))) (i + n)
+      out_copied y ey =
+          out_on y (ey ∙ take_all (length (part i (i + n - i) out)) (part place (place + n - place) store) (omega (arith, out_part, from_part)))
 
   -- WHAT IS BEHIND THE GRID stands in the last block, up to its sum
   module _ (size : ℕ) (some : 0 < size) (exact : length store ≡ 512 * (1 + (size + 503) / 504)) where
