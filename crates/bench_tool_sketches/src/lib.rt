@@ -1,4 +1,4 @@
-// What the bench tool does with its sketches, but for files and watched codes, and what it says: to a line that is no command, of a
+// What the bench tool does with its sketches, but for files and calls on watched codes, and what it says: to a line that is no command, of a
 // call that was refused, and of a sketch that is only looked at.
 #![tactic(auto)]
 

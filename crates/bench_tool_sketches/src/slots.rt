@@ -8,6 +8,7 @@ use codes::Watch;
 use service::Service;
 use sketch::MicroCm;
 use std::alloc::{AllocError, Global};
+use std::mem;
 
 // The most bytes that a grid here may have.
 pub const LIMIT: usize = 1048576;
@@ -137,6 +138,17 @@ impl<'a> Place<'a> {
         ensures same_place { (self.new.slot.ghost_name ≡ self.old.slot.ghost_name) × (self.new.room.ghost_name ≡ self.old.room.ghost_name) }
     {
         *self.slot = Some(Slot::of(service, size));
+    }
+
+    // All that stands at the one place against all that stands at the other, which another bench lends.
+    pub fn swap(&mut self, other: &mut Place<'_>)
+        ensures slots { (self.new.slot.now ≡ other.old.slot.now) × (other.new.slot.now ≡ self.old.slot.now) }
+        ensures rooms { (self.new.room.now ≡ other.old.room.now) × (other.new.room.now ≡ self.old.room.now) }
+        ensures same_place { (self.new.slot.ghost_name ≡ self.old.slot.ghost_name) × (self.new.room.ghost_name ≡ self.old.room.ghost_name) }
+        ensures same_other { (other.new.slot.ghost_name ≡ other.old.slot.ghost_name) × (other.new.room.ghost_name ≡ other.old.room.ghost_name) }
+    {
+        mem::swap(self.slot, other.slot);
+        mem::swap(self.room, other.room);
     }
 
     // The sketch, if one was made.

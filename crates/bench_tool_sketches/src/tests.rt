@@ -1,4 +1,4 @@
-// What another crate does with a place and its lists, and no contract tells.
+// What no contract tells of a place and its lists, by public names alone.
 use crate::kept_lists::KeptLists;
 use crate::line::Line;
 use crate::slots::Bench;
@@ -29,6 +29,30 @@ fn holds_anew(rt: HostRuntime) -> Result<(), Fail> {
     if let Ok(kept) = kept {
         assert_eq!(rt; kept.slot.size, 5);
         assert_eq!(rt; kept.grid.len(), 5);
+    }
+    Ok(())
+}
+
+#[test]
+fn swaps_all_with_an_empty_place(rt: HostRuntime) -> Result<(), Fail> {
+    let mut ours = Bench::new(rt.alloc())?;
+    let mut theirs = Bench::new(rt.alloc())?;
+    let line = Line::new(b"load b file");
+    let (Ok(mut our), Ok(mut their)) = (
+        ours.place_of(Command::Load, line),
+        theirs.place_of(Command::Load, line),
+    ) else {
+        assert!(rt; false);
+        return Ok(());
+    };
+    our.hold(any_service(), 5);
+    our.room(2)[..].fill(7);
+    our.swap(&mut their);
+    assert!(rt; ours.kept_of(Command::Load, line).is_err());
+    let kept = theirs.kept_of(Command::Load, line);
+    assert!(rt; kept.is_ok());
+    if let Ok(kept) = kept {
+        assert_eq!(rt; &kept.grid[..], [7, 7, 0, 0, 0].as_slice());
     }
     Ok(())
 }
