@@ -45,7 +45,7 @@ impl KeptLists {
     }
 
     // Those of the place that the line names, as they were left. A line that names none gets those of a: ask once
-    // `Bench::kept_of` has found the sketch.
+    // `Bench::place_of` or `Bench::kept_of` has found the place.
     pub fn of(&mut self, line: Line<'_>) -> &mut Lists
         ensures { (result.now ≡ self.old.a) ⊎ (result.now ≡ self.old.b) ⊎ (result.now ≡ self.old.c) ⊎ (result.now ≡ self.old.d) }
     {
