@@ -1,5 +1,5 @@
-// What the bench tool does with its sketches, but for files and calls on watched codes, and what it says: to a line that is no command, of a
-// call that was refused, and of a sketch that is only looked at.
+// What the bench tool does with its sketches, but for files and calls on watched codes, and what it says: to a line that is no
+// command, of a call that was refused, and of a sketch that is only looked at.
 #![tactic(auto)]
 
 pub mod card;

@@ -119,7 +119,9 @@ pub struct Place<'a> {
 
 impl<'a> Place<'a> {
     // The room for a grid of so many bytes.
-    pub fn room(&mut self, size: usize) -> &mut [u8] {
+    pub fn room(&mut self, size: usize) -> &mut [u8]
+        ensures { let all = self.old.room.now.items in result.now ≡ take (min size (length all)) all }
+    {
         first(self.room, size)
     }
 
